@@ -63,14 +63,14 @@ pub fn copy_u32(list: &[u32], out: &mut [u32])
     }
 }
 
-// All of `list` stored from the start of `out`.
-pub fn copy_f32(list: &[f32], out: &mut [f32])
-    requires { ⌜ length (now list) ≤ length (now out) ⌝ }
-    ensures { λ _. ⌜ now (out .exit) ≡ sets (now (out .entry)) 0 (now (list .entry)) ⌝ }
+// All of `coords` stored from the start of `out`.
+pub fn copy_f32(coords: &[f32], out: &mut [f32])
+    requires { ⌜ length (now coords) ≤ length (now out) ⌝ }
+    ensures { λ _. ⌜ now (out .exit) ≡ sets (now (out .entry)) 0 (now (coords .entry)) ⌝ }
 {
     let mut i = 0;
-    while i < list.len() {
-        out[i] = list[i];
+    while i < coords.len() {
+        out[i] = coords[i];
         i += 1;
     }
 }

@@ -9,11 +9,11 @@ use Rattle.slices.proofs.copy_f32.Statement.{statement}
 use Rattle.slices.proofs.copy_f32.Tie as tie
 
 abbrev Inv-loop : tie.InvT-loop
-Inv-loop list out₀ i₀ out i =
-    (i ≤ length list) × (out ≡ sets out₀ 0 (take i list))
+Inv-loop coords out₀ i₀ out i =
+    (i ≤ length coords) × (out ≡ sets out₀ 0 (take i coords))
 
 abbrev μ-loop : tie.MeasureT-loop
-μ-loop list out₀ i₀ out i = length list - i
+μ-loop coords out₀ i₀ out i = length coords - i
 
 loop-holds : tie.Need-loop-holds Inv-loop μ-loop
 loop-holds c = (omega arith, refl)
@@ -44,7 +44,7 @@ same-length c = simp length-sets at (ap length (c .before .loop .inv .1))
 
 returns : tie.Need-returns Inv-loop μ-loop
 returns c =
-    let e : c .before .loop .i ≡ length (c .before .before .args .list .now) = omega arith in
+    let e : c .before .loop .i ≡ length (c .before .before .args .coords .now) = omega arith in
     rw (e, take-length) at (c .before .loop .inv .1)
 
 pub copy-f32-spec : {M : Type 1} → statement M

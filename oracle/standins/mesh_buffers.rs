@@ -1,0 +1,1 @@
+// Empty: the text declares this module, its file is not among those given.
