@@ -1,0 +1,7 @@
+-- The specs of the mesh: definitions first, then the laws.
+pub mod Mesh
+pub mod Tests
+pub mod Shape
+pub mod Corners
+pub mod Edges
+pub mod Ring
