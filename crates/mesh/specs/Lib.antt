@@ -4,4 +4,6 @@ pub mod Tests
 pub mod Shape
 pub mod Corners
 pub mod Edges
+pub mod Count
+pub mod EdgeList
 pub mod Ring
