@@ -6,4 +6,9 @@ pub mod Corners
 pub mod Edges
 pub mod Count
 pub mod EdgeList
+pub mod Closed
+pub mod Unlike
 pub mod Ring
+pub mod Wheel
+pub mod Ranks
+pub mod Pieces

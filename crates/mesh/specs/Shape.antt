@@ -1,19 +1,19 @@
 -- What the tests 1, 2 and 5 leave known of a mesh, and the laws of faces and corners that follow.
 -- Assumes nothing.
 use Prim.Native.Nat.{ℕ, zero, suc, _+_, _-_, _/_, _≤_, _<_, zero-le}
-use mathlib.Core.Path.{_≡_, refl, sym, _∙_, ap}
+use mathlib.Core.Path.{_≡_, refl, sym, _∙_, ap, ap₂}
 use mathlib.Core.Bool.{Bool, true, false, cond, not, _||_, true≢false}
 use mathlib.Core.List.{List, [], _∷_}
 use mathlib.Core.Logic.{⊎-elim}
 use native.Mathlib.Omega.{arith}
 use native.Mathlib.Nat.{eq-or-lt-of-le, le-refl, le-trans, add-zero, add-suc, pos-of-ne-zero, lt-irrefl, le-of-eq}
 use native.Mathlib.Numerals.{add-one}
-use lib.ListN.{length, getD}
+use lib.ListN.{length, getD, take, drop, length-take, length-drop}
 use lib.Dec.{ltb, eqb}
-use borrow.Author.Tests.{lt-ltb, le-ltb, ltb-true, ltb-false, eqb-true, eqb-false, not-false, eq-eqb, ne-eqb}
+use borrow.Author.Tests.{lt-ltb, le-ltb, ltb-true, ltb-false, eqb-true, eqb-false, not-false, eq-eqb, ne-eqb, le-leb, lt-leb}
 use Rattle.slices.specs.First.{first, any, first-is, found, nowhere}
-use Rattle.mesh.specs.Mesh.{faces, start, end, arity, faceOf, faceAfter, next, nextIn, pairOf, window, windowIs}
-use Rattle.mesh.specs.Tests.{falls, wrongOffsets, wrongShape, tooMany, limit, short, verdict, passed, sizeTests, faceTests}
+use Rattle.mesh.specs.Mesh.{faces, start, end, arity, run, faceOf, faceAfter, next, nextIn, pairOf, window, windowIs}
+use Rattle.mesh.specs.Tests.{falls, wrongOffsets, wrongShape, tooMany, limit, short, outside, verdict, passed, sizeTests, faceTests}
 use Rattle.mesh.specs.declared.Verdict.the-variants.{Good, Bad}
 use lib.Ieee.{Float}
 
@@ -126,11 +126,17 @@ unfolding window
 starts-elsewhere o k e c a q h = rw (← q, ne-eqb _ _ h)
 
 -- ---- a test's answer from what the code compares
-pub short-yes : (o : List ℕ) (f : ℕ) → end o f < start o f + 3 → short o f ≡ true
-short-yes o f h = lt-ltb _ _ (let w : arity o f < 3 = omega arith in w)
+pub length-run : (o k : List ℕ) → Shaped o (length k) → (f : ℕ) → f < faces o → length (run o k f) ≡ arity o f
+length-run o k s f h = let w = end-le o (length k) s f h in let v = s .rises f h in simp (length-take, length-drop) (omega arith)
 
-pub short-no : (o : List ℕ) (f : ℕ) → start o f + 3 ≤ end o f → short o f ≡ false
-short-no o f h = le-ltb _ _ (let w : 3 ≤ arity o f = omega arith in w)
+pub short-run : (o k : List ℕ) → Shaped o (length k) → (f a b r : ℕ) → f < faces o → a ≡ start o f → b ≡ end o f → r ≡ length (take (b - a) (drop a k)) → ltb r 3 ≡ short o f
+short-run o k s f a b r h p q e = ap (λ (n : ℕ). ltb n 3) (e ∙ ap₂ (λ (i j : ℕ). length (take (j - i) (drop i k))) p q ∙ length-run o k s f h)
+
+pub outside-yes : (k : List ℕ) (v c n : ℕ) → n ≡ getD k c 0 → v ≤ n → outside k v c ≡ true
+outside-yes k v c n e h = rw (← e) (le-leb v n h)
+
+pub outside-no : (k : List ℕ) (v c n : ℕ) → n ≡ getD k c 0 → n < v → outside k v c ≡ false
+outside-no k v c n e h = rw (← e) (lt-leb v n h)
 
 pub by-last : (o : List ℕ) (n : ℕ) → (length o ≡ 0 → ⊥) → start o 0 ≡ 0 → faces o ≤ first (falls o) (faces o) → not (eqb (start o (faces o)) n) ≡ wrongOffsets o n
 unfolding wrongOffsets

@@ -25,6 +25,15 @@ unfoldable pub verdict : List Test → Verdict
 verdict [] = Good
 verdict (r ∷ rs) = cond (any (r .holds) (r .places)) (Bad (r .number) (first (r .holds) (r .places))) (verdict rs)
 
+-- the number and the place handed back: 0 and 0 where nothing is refused
+abbrev pub numberOf : Verdict → ℕ
+numberOf Good = 0
+numberOf (Bad n p) = n
+
+abbrev pub placeOf : Verdict → ℕ
+placeOf Good = 0
+placeOf (Bad n p) = p
+
 -- ---- the tests
 
 -- 1: offsets have at least one entry, the first 0, none smaller than the one before, the last the number of corners

@@ -12,15 +12,37 @@ ghost use Rattle.mesh.specs.Corners.{Paired};
 ghost use Rattle.mesh.specs.Edges.{Sound, up, rank, edges};
 ghost use Rattle.mesh.specs.EdgeList.{rise, listing, answerOf, listAfter};
 ghost use Rattle.mesh.specs.Shape.{Shaped, In, Full, Limited, At};
-ghost use Rattle.mesh.specs.Tests.{falls, wrongOffsets, wrongShape, tooMany, short, outside, seen, repeats, met, alone, limit, verdict, tests, sizeTests, faceTests, edgeTests, facesAt, few, back, split, roundTests, fullTests};
+ghost use Rattle.mesh.specs.Tests.{falls, wrongOffsets, wrongShape, tooMany, short, outside, seen, repeats, met, alone, limit, verdict, numberOf, placeOf, tests, sizeTests, faceTests, edgeTests, facesAt, few, back, split, roundTests, fullTests};
 
 pub enum Verdict {
     Good,
     Bad { number: u32, place: u32 },
 }
 
+// The number that a verdict stands for: 0 where nothing is refused.
+pub fn number_of(v: Verdict) -> u32
+    ensures { λ r. ⌜ r ≡ numberOf v ⌝ }
+{
+    match v {
+        Verdict::Good => 0,
+        Verdict::Bad { number, place: _ } => number,
+    }
+}
+
+// The place of a verdict: 0 where nothing is refused.
+pub fn place_of(v: Verdict) -> u32
+    ensures { λ r. ⌜ r ≡ placeOf v ⌝ }
+{
+    match v {
+        Verdict::Good => 0,
+        Verdict::Bad { number: _, place } => place,
+    }
+}
+
+// ---- the tests, a function each
+
 // The lowest offset that the next one is smaller than.
-pub fn falling_at(offsets: &[u32]) -> usize
+fn falling_at(offsets: &[u32]) -> usize
     ensures { λ r. ⌜ r ≡ first (falls (now (offsets .entry))) (faces (now (offsets .entry))) ⌝ }
 {
     let mut i = 0;
@@ -34,7 +56,7 @@ pub fn falling_at(offsets: &[u32]) -> usize
 }
 
 // Whether the offsets are of wrong shape for so many corners.
-pub fn offsets_wrong(offsets: &[u32], corners: usize) -> bool
+fn offsets_wrong(offsets: &[u32], corners: usize) -> bool
     ensures { λ r. ⌜ r ≡ wrongOffsets (now (offsets .entry)) corners ⌝ }
 {
     let n = offsets.len();
@@ -51,7 +73,7 @@ pub fn offsets_wrong(offsets: &[u32], corners: usize) -> bool
 }
 
 // Test 1: 0 offsets, 1 coordinates, 2 neither.
-pub fn shape_at(offsets: &[u32], corners: usize, numbers: usize) -> usize
+fn shape_at(offsets: &[u32], corners: usize, numbers: usize) -> usize
     ensures { λ r. ⌜ r ≡ first (wrongShape (now (offsets .entry)) corners numbers) 2 ⌝ }
 {
     if offsets_wrong(offsets, corners) {
@@ -79,13 +101,33 @@ pub fn limit_at(faces: usize, corners: usize, numbers: usize) -> usize
     3
 }
 
+// How many corners a face has, which is handed over as its run of corners.
+pub fn arity(run: &[u32]) -> usize
+    ensures { λ r. ⌜ r ≡ length (now (run .entry)) ⌝ }
+{
+    run.len()
+}
+
+// Whether face `f` has under three corners.
+fn short_in(offsets: &[u32], corners: &[u32], f: usize) -> bool
+    requires { ⌜ Shaped (now offsets) (length (now corners)) ⌝ }
+    requires { ⌜ f < faces (now offsets) ⌝ }
+    ensures { λ r. ⌜ r ≡ short (now (offsets .entry)) f ⌝ }
+{
+    let a = slices::wide(offsets[f]);
+    let b = slices::wide(offsets[f + 1]);
+    let run = &corners[a..b];
+    arity(run) < 3
+}
+
 // Test 5: the lowest face under three corners.
-pub fn short_at(offsets: &[u32]) -> usize
+fn short_at(offsets: &[u32], corners: &[u32]) -> usize
+    requires { ⌜ Shaped (now offsets) (length (now corners)) ⌝ }
     ensures { λ r. ⌜ r ≡ first (short (now (offsets .entry))) (faces (now (offsets .entry))) ⌝ }
 {
     let mut f = 0;
     while f + 1 < offsets.len() {
-        if slices::wide(offsets[f + 1]) < slices::wide(offsets[f]) + 3 {
+        if short_in(offsets, corners, f) {
             return f;
         }
         f += 1;
@@ -94,21 +136,21 @@ pub fn short_at(offsets: &[u32]) -> usize
 }
 
 // Test 6: the lowest corner whose vertex number is not below `positions`.
-pub fn outside_at(corners: &[u32], positions: usize) -> usize
+fn outside_at(corners: &[u32], positions: usize) -> usize
     ensures { λ r. ⌜ r ≡ first (outside (now (corners .entry)) positions) (length (now (corners .entry))) ⌝ }
 {
-    let mut c = 0;
-    while c < corners.len() {
-        if positions <= slices::wide(corners[c]) {
-            return c;
+    let mut at = 0;
+    while at < corners.len() {
+        if positions <= slices::wide(corners[at]) {
+            return at;
         }
-        c += 1;
+        at += 1;
     }
-    c
+    at
 }
 
 // The lowest place of a face's run of corners whose vertex stands before it too.
-pub fn seen_at(run: &[u32]) -> usize
+fn seen_at(run: &[u32]) -> usize
     ensures { λ r. ⌜ r ≡ first (seen (now (run .entry))) (length (now (run .entry))) ⌝ }
 {
     let mut i = 0;
@@ -122,7 +164,7 @@ pub fn seen_at(run: &[u32]) -> usize
 }
 
 // Whether face `f` has a vertex twice.
-pub fn repeats_in(offsets: &[u32], corners: &[u32], f: usize) -> bool
+fn repeats_in(offsets: &[u32], corners: &[u32], f: usize) -> bool
     requires { ⌜ Shaped (now offsets) (length (now corners)) ⌝ }
     requires { ⌜ f < faces (now offsets) ⌝ }
     ensures { λ r. ⌜ r ≡ repeats (now (offsets .entry)) (now (corners .entry)) f ⌝ }
@@ -134,7 +176,7 @@ pub fn repeats_in(offsets: &[u32], corners: &[u32], f: usize) -> bool
 }
 
 // Test 7: the lowest face with a vertex twice.
-pub fn repeat_at(offsets: &[u32], corners: &[u32]) -> usize
+fn repeat_at(offsets: &[u32], corners: &[u32]) -> usize
     requires { ⌜ Shaped (now offsets) (length (now corners)) ⌝ }
     ensures { λ r. ⌜ r ≡ first (repeats (now (offsets .entry)) (now (corners .entry))) (faces (now (offsets .entry))) ⌝ }
 {
@@ -209,7 +251,7 @@ pub fn window_in(offsets: &[u32], corners: &[u32], f: usize, c: usize) -> [u32; 
 }
 
 // Whether the directed edge of corner `c`, which is of face `f`, is `e`: where it starts is compared first.
-pub fn window_is(offsets: &[u32], corners: &[u32], e: [u32; 2], f: usize, c: usize) -> bool
+fn window_is(offsets: &[u32], corners: &[u32], e: [u32; 2], f: usize, c: usize) -> bool
     requires { ⌜ Shaped (now offsets) (length (now corners)) ⌝ }
     requires { ⌜ In (now offsets) f c ⌝ }
     ensures { λ r. ⌜ r ≡ windowIs (now (offsets .entry)) (now (corners .entry)) e c ⌝ }
@@ -240,7 +282,7 @@ pub fn find_window(offsets: &[u32], corners: &[u32], e: [u32; 2], stop: usize) -
 }
 
 // Whether the directed edge of corner `c`, which is of face `f`, is met before it.
-pub fn met_in(offsets: &[u32], corners: &[u32], f: usize, c: usize) -> bool
+fn met_in(offsets: &[u32], corners: &[u32], f: usize, c: usize) -> bool
     requires { ⌜ Shaped (now offsets) (length (now corners)) ⌝ }
     requires { ⌜ Full (now offsets) ⌝ }
     requires { ⌜ In (now offsets) f c ⌝ }
@@ -251,7 +293,7 @@ pub fn met_in(offsets: &[u32], corners: &[u32], f: usize, c: usize) -> bool
 }
 
 // Test 8: the lowest corner whose directed edge is met before it.
-pub fn met_at(offsets: &[u32], corners: &[u32]) -> usize
+fn met_at(offsets: &[u32], corners: &[u32]) -> usize
     requires { ⌜ Shaped (now offsets) (length (now corners)) ⌝ }
     requires { ⌜ Full (now offsets) ⌝ }
     ensures { λ r. ⌜ r ≡ first (met (now (offsets .entry)) (now (corners .entry))) (length (now (corners .entry))) ⌝ }
@@ -280,7 +322,7 @@ pub fn mate_in(offsets: &[u32], corners: &[u32], f: usize, c: usize) -> usize
 }
 
 // Whether the directed edge of corner `c`, which is of face `f`, has no reverse.
-pub fn alone_in(offsets: &[u32], corners: &[u32], f: usize, c: usize) -> bool
+fn alone_in(offsets: &[u32], corners: &[u32], f: usize, c: usize) -> bool
     requires { ⌜ Shaped (now offsets) (length (now corners)) ⌝ }
     requires { ⌜ Full (now offsets) ⌝ }
     requires { ⌜ In (now offsets) f c ⌝ }
@@ -290,7 +332,7 @@ pub fn alone_in(offsets: &[u32], corners: &[u32], f: usize, c: usize) -> bool
 }
 
 // Test 9: the lowest corner whose directed edge has no reverse.
-pub fn alone_at(offsets: &[u32], corners: &[u32]) -> usize
+fn alone_at(offsets: &[u32], corners: &[u32]) -> usize
     requires { ⌜ Shaped (now offsets) (length (now corners)) ⌝ }
     requires { ⌜ Full (now offsets) ⌝ }
     ensures { λ r. ⌜ r ≡ first (alone (now (offsets .entry)) (now (corners .entry))) (length (now (corners .entry))) ⌝ }
@@ -363,7 +405,7 @@ pub fn faces_at(corners: &[u32], v: u32) -> usize
 }
 
 // Test 10: the lowest vertex in fewer than three faces.
-pub fn few_at(corners: &[u32], positions: usize) -> usize
+fn few_at(corners: &[u32], positions: usize) -> usize
     requires { ⌜ positions ≤ limit ⌝ }
     ensures { λ r. ⌜ r ≡ first (few (now (corners .entry))) positions ⌝ }
 {
@@ -378,7 +420,7 @@ pub fn few_at(corners: &[u32], positions: usize) -> usize
 }
 
 // The lowest number of turns, less one, after which one is back at `start`, below `stop`.
-pub fn back_at(offsets: &[u32], corners: &[u32], start: usize, stop: usize) -> usize
+fn back_at(offsets: &[u32], corners: &[u32], start: usize, stop: usize) -> usize
     requires { ⌜ Shaped (now offsets) (length (now corners)) ⌝ }
     requires { ⌜ Full (now offsets) ⌝ }
     requires { ⌜ Paired (now offsets) (now corners) ⌝ }
@@ -398,7 +440,7 @@ pub fn back_at(offsets: &[u32], corners: &[u32], start: usize, stop: usize) -> u
 }
 
 // Whether the faces round `v` form more than one fan.
-pub fn split_in(offsets: &[u32], corners: &[u32], v: u32) -> bool
+fn split_in(offsets: &[u32], corners: &[u32], v: u32) -> bool
     requires { ⌜ Shaped (now offsets) (length (now corners)) ⌝ }
     requires { ⌜ Full (now offsets) ⌝ }
     requires { ⌜ Paired (now offsets) (now corners) ⌝ }
@@ -411,7 +453,7 @@ pub fn split_in(offsets: &[u32], corners: &[u32], v: u32) -> bool
 }
 
 // Test 11: the lowest vertex whose faces form more than one fan.
-pub fn split_at(offsets: &[u32], corners: &[u32], positions: usize) -> usize
+fn split_at(offsets: &[u32], corners: &[u32], positions: usize) -> usize
     requires { ⌜ Shaped (now offsets) (length (now corners)) ⌝ }
     requires { ⌜ Full (now offsets) ⌝ }
     requires { ⌜ Paired (now offsets) (now corners) ⌝ }
@@ -465,7 +507,7 @@ pub fn check_faces(offsets: &[u32], corners: &[u32], coords: &[f32]) -> Verdict
             place: loose as u32,
         };
     }
-    let short = short_at(offsets);
+    let short = short_at(offsets, corners);
     if short < offsets.len() - 1 {
         return Verdict::Bad {
             number: 5,
