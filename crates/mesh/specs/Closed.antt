@@ -1,20 +1,19 @@
 -- What tests 8 and 9 mean: no two corners have one directed edge, and each has one that is its reverse. Both directions, and the laws of mates.
 -- Assumes nothing.
-use Prim.Native.Nat.{ℕ, zero, suc, _+_, _-_, _≤_, _<_}
+use Prim.Native.Nat.{ℕ, _<_}
 use mathlib.Core.Path.{_≡_, refl, sym, _∙_, ap}
-use mathlib.Core.Bool.{Bool, true, false, cond, not, _&&_, true≢false}
-use mathlib.Core.List.{List, [], _∷_}
-use mathlib.Core.Logic.{⊎-elim}
+use mathlib.Core.Bool.{Bool, true, false, not, _&&_, true≢false}
+use mathlib.Core.List.{List}
 use native.Mathlib.Omega.{arith}
 use native.Mathlib.Nat.{le-refl, le-antisymm, le-of-suc-le-suc, lt-of-not-le, lt-of-le-of-lt}
 use lib.ListN.{length, getD}
-use lib.Dec.{ltb, eqb}
-use borrow.Author.Tests.{lt-ltb, le-ltb, ltb-true, ltb-false, eqb-true, eq-eqb, not-false}
-use Rattle.slices.specs.First.{first, any, first-is, found, none, nowhere, not-any, at-or-before}
-use Rattle.mesh.specs.Mesh.{faces, next, prev, window, windowIs, mate, turn, pairOf, turnedOf, samePair}
+use lib.Dec.{eqb}
+use borrow.Author.Tests.{lt-ltb, ltb-true, ltb-false, eqb-true, eq-eqb, not-false}
+use Rattle.slices.specs.First.{first-is, none, nowhere, not-any, at-or-before}
+use Rattle.mesh.specs.Mesh.{faces, next, prev, window, windowIs, mate, turn, pairOf, turnedOf}
 use Rattle.mesh.specs.Tests.{alone, met, repeats, verdict, tests, faceTests, edgeTests, passed, pass, clear, tests-good}
 use lib.Ieee.{Float}
-use Rattle.mesh.specs.Shape.{Shaped, Full, Limited, size-good, passed-short}
+use Rattle.mesh.specs.Shape.{Shaped, Full, size-good, passed-short}
 use Rattle.mesh.specs.Corners.{next-prev, prev-lt}
 use Rattle.mesh.specs.declared.Verdict.the-variants.{Good}
 
@@ -119,6 +118,10 @@ module _ (o k : List ℕ) where
     pub turn-from : Shaped o (length k) → (c : ℕ) → c < length k → from o k (turn o k c) ≡ from o k c
     unfolding turn
     turn-from s c l = mate-from (prev o c) (prev-lt o _ s c l) ∙ ap (λ d. getD k d 0) (next-prev o _ s c l)
+
+-- 8 and 9 pass exactly where the mesh is closed
+pub exactly-closed : (o k : List ℕ) → (verdict (edgeTests o k) ≡ Good → Closed o k) × (Closed o k → verdict (edgeTests o k) ≡ Good)
+exactly-closed o k = (good-closed o k, λ w. sym (closed-good o k w))
 
 -- ---- what tests 1, 5, 7, 8 and 9 leave known: what a theorem about an operator's result starts from
 pub record Surface (o k : List ℕ) : Type 0 where

@@ -1,21 +1,20 @@
 -- The laws of a corner: its face, the corners before and after it. And what tests 8 and 9 leave known: each corner has one mate.
 -- Assumes nothing.
 use Prim.Native.Nat.{ℕ, zero, suc, _+_, _-_, _≤_, _<_, zero-le}
-use mathlib.Core.Path.{_≡_, refl, sym, _∙_, ap}
-use mathlib.Core.Bool.{Bool, true, false, cond, not}
-use mathlib.Core.List.{List, [], _∷_}
+use mathlib.Core.Path.{_≡_, refl, sym}
+use mathlib.Core.Bool.{Bool, true, false, cond}
+use mathlib.Core.List.{List}
 use mathlib.Core.Logic.{⊎-elim}
 use native.Mathlib.Omega.{arith}
-use native.Mathlib.Nat.{eq-or-lt-of-le, le-refl, le-trans, lt-irrefl, le-of-eq, not-suc-le-zero, not-le-of-lt}
+use native.Mathlib.Nat.{eq-or-lt-of-le, le-refl, le-of-eq, not-suc-le-zero, not-le-of-lt}
 use native.Mathlib.Numerals.{add-one}
-use lib.ListN.{length, getD}
-use lib.Dec.{ltb, eqb}
+use lib.ListN.{length}
+use lib.Dec.{ltb}
 use borrow.Author.Tests.{lt-ltb, le-ltb, ltb-true, ltb-false, not-false}
-use Rattle.slices.specs.First.{first, any, first-is, nowhere}
-use Rattle.mesh.specs.Mesh.{faces, start, end, faceOf, next, nextIn, prev, prevIn, mate, window, turn, around}
-use Rattle.mesh.specs.Tests.{alone, met, verdict, edgeTests, tests, passed, both-good, by-groups}
-use Rattle.mesh.specs.Shape.{Shaped, In, Full, mono, faceOf-at, next-at, in-lt, Limited, size-good, face-good}
-use lib.Ieee.{Float}
+use Rattle.slices.specs.First.{first, first-is, nowhere}
+use Rattle.mesh.specs.Mesh.{faces, start, end, faceOf, next, nextIn, prev, prevIn, mate, turn, around}
+use Rattle.mesh.specs.Tests.{alone, verdict, edgeTests, passed}
+use Rattle.mesh.specs.Shape.{Shaped, In, faceOf-at, next-at, in-lt}
 use Rattle.mesh.specs.declared.Verdict.the-variants.{Good}
 
 module _ (o : List ℕ) (n : ℕ) (s : Shaped o n) where

@@ -8,11 +8,11 @@ use native.Mathlib.Omega.{arith}
 use native.Mathlib.Nat.{add-zero, zero-add, not-suc-le-zero}
 use native.Mathlib.Numerals.{add-one}
 use lib.ListN.{length, set}
-use lib.Seq.{sets, length-sets}
+use lib.Seq.{sets}
 use lib.Dec.{ltb}
 use lib.Ieee.{Float}
-use borrow.Author.Tests.{ltb-true, ltb-false, lt-ltb, le-ltb}
-use Rattle.slices.specs.First.{first, count, nowhere, found, none}
+use borrow.Author.Tests.{lt-ltb, le-ltb}
+use Rattle.slices.specs.First.{count, nowhere, found, none}
 use Rattle.slices.specs.Lists.{each, over, each-more, length-where, sets-append, sets-over}
 use Rattle.mesh.specs.Mesh.{window}
 use Rattle.mesh.specs.Tests.{Test, met, verdict, tests, edgeTests, passed, tests-good, verdict-append, andThen, accepted, refused as refuses, stop, pass, clear}

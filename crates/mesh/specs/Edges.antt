@@ -1,19 +1,19 @@
 -- What the tests up to 9 leave known of a mesh in one record; ascending windows, and the rank of an edge among them.
 -- Assumes nothing.
-use Prim.Native.Nat.{ℕ, zero, suc, _+_, _-_, _*_, _/_, _≤_, _<_}
-use mathlib.Core.Path.{_≡_, refl, sym, _∙_, ap}
+use Prim.Native.Nat.{ℕ, _/_, _≤_, _<_}
+use mathlib.Core.Path.{_≡_, _∙_, ap}
 use mathlib.Core.Bool.{Bool, true, false, cond}
-use mathlib.Core.List.{List, [], _∷_}
+use mathlib.Core.List.{List}
 use native.Mathlib.Omega.{arith}
 use lib.ListN.{length, getD}
-use lib.Dec.{ltb, leb}
+use lib.Dec.{ltb}
 use lib.Ieee.{Float}
-use borrow.Author.Tests.{lt-ltb, le-ltb, ltb-true, ltb-false, leb-false}
-use Rattle.slices.specs.First.{first, count, count-le, nowhere}
+use borrow.Author.Tests.{lt-ltb, le-ltb, leb-false}
+use Rattle.slices.specs.First.{count, count-le, nowhere}
 use Rattle.point.specs.Face.{InReach}
-use Rattle.mesh.specs.Mesh.{faces, start, end, faceOf, next, nextIn, prev, prevIn, mate, window}
+use Rattle.mesh.specs.Mesh.{faces, faceOf, next, nextIn, prev, prevIn, mate, window, orderedOf}
 use Rattle.mesh.specs.Tests.{limit, outside, verdict, passed, sizeTests, faceTests, edgeTests, tests, tests-good}
-use Rattle.mesh.specs.Shape.{Shaped, In, Full, Limited, faceOf-at, next-at, in-lt, size-good, face-good}
+use Rattle.mesh.specs.Shape.{Shaped, In, Full, Limited, next-at, size-good, face-good}
 use Rattle.mesh.specs.Corners.{Paired, in-face, next-lt, prev-lt, edges-good}
 use Rattle.mesh.specs.declared.Verdict.the-variants.{Good}
 
@@ -57,6 +57,10 @@ reached o k x e c h =
     let w : outside k (length x / 3) c ≡ false = nowhere (outside k (length x / 3)) (length k) (passed _ _ (passed _ _ (passed _ _ e .1) .1) .0) c h in
     let l : getD k c 0 < length x / 3 = leb-false _ _ w in
     omega arith
+
+-- the edge of c: its window, the smaller number first
+abbrev pub edge : List ℕ → List ℕ → ℕ → List ℕ
+edge o k c = orderedOf (window o k c)
 
 -- the window of c ascends
 unfoldable pub up : List ℕ → List ℕ → ℕ → Bool

@@ -1,23 +1,22 @@
 -- The ranks of edges: two corners have one rank where they are the same or mates; half of the windows ascend; a rank is a place in the edge list.
 -- Assumes nothing.
-use Prim.Native.Nat.{ℕ, zero, suc, _+_, _-_, _≤_, _<_, zero-le}
+use Prim.Native.Nat.{ℕ, zero, suc, _+_, _≤_, _<_}
 use mathlib.Core.Path.{_≡_, refl, sym, _∙_, ap, ap₂}
 use mathlib.Core.Bool.{Bool, true, false, cond, not, true≢false}
-use mathlib.Core.List.{List, [], _∷_, _++_}
+use mathlib.Core.List.{List, [], _++_}
 use mathlib.Core.Logic.{_⊎_, inl, inr, ⊎-elim}
 use native.Mathlib.Omega.{arith}
 use native.Mathlib.Nat.{eq-or-lt-of-le, le-of-suc-le-suc, not-suc-le-zero, lt-irrefl}
 use lib.ListN.{length, getD, List·getD-append}
 use lib.Seq.{getD-append-seam}
-use lib.Dec.{ltb}
 use borrow.Author.Tests.{lt-ltb, le-ltb, ltb-true, ltb-false}
 use Rattle.slices.specs.First.{count}
 use Rattle.slices.specs.Lists.{each}
-use Rattle.mesh.specs.Mesh.{next, prev, mate, turn, window, pairOf, orderedOf}
+use Rattle.mesh.specs.Mesh.{next, mate, turn, window, pairOf, orderedOf}
 use Rattle.mesh.specs.Tests.{verdict, edgeTests}
 use Rattle.mesh.specs.Corners.{prev-next}
-use Rattle.mesh.specs.Closed.{Surface, from, to, mate-lt, mate-from, mate-to, mate-mate, closed-good}
-use Rattle.mesh.specs.Edges.{up, rank, edges}
+use Rattle.mesh.specs.Closed.{Surface, mate-lt, mate-from, mate-to, mate-mate, closed-good}
+use Rattle.mesh.specs.Edges.{edge, up, rank, edges}
 use Rattle.mesh.specs.EdgeList.{edgeList, rise, all-rise, length-rise, length-list}
 use Rattle.mesh.specs.Count.{count-lt, count-inj, count-into, count-not}
 use Rattle.mesh.specs.Unlike.{ends-apart}
@@ -160,7 +159,7 @@ module _ (o k : List ℕ) (w : Surface o k) where
   good : verdict (edgeTests o k) ≡ Good
   good = sym (closed-good o k (w .closed))
 
-  pub place-is-rank : (c : ℕ) → c < length k → getD (edgeList o k) (rank o k c) [] ≡ orderedOf (window o k c)
+  pub place-is-rank : (c : ℕ) → c < length k → getD (edgeList o k) (rank o k c) [] ≡ edge o k c
   unfolding rank rep
   place-is-rank c h =
       let r = rep-is c h in

@@ -1,9 +1,9 @@
 -- What the tests 1, 2 and 5 leave known of a mesh, and the laws of faces and corners that follow.
 -- Assumes nothing.
 use Prim.Native.Nat.{ℕ, zero, suc, _+_, _-_, _/_, _≤_, _<_, zero-le}
-use mathlib.Core.Path.{_≡_, refl, sym, _∙_, ap, ap₂}
+use mathlib.Core.Path.{_≡_, refl, _∙_, ap, ap₂}
 use mathlib.Core.Bool.{Bool, true, false, cond, not, _||_, true≢false}
-use mathlib.Core.List.{List, [], _∷_}
+use mathlib.Core.List.{List}
 use mathlib.Core.Logic.{⊎-elim}
 use native.Mathlib.Omega.{arith}
 use native.Mathlib.Nat.{eq-or-lt-of-le, le-refl, le-trans, add-zero, add-suc, pos-of-ne-zero, lt-irrefl, le-of-eq}
@@ -11,10 +11,10 @@ use native.Mathlib.Numerals.{add-one}
 use lib.ListN.{length, getD, take, drop, length-take, length-drop}
 use lib.Dec.{ltb, eqb}
 use borrow.Author.Tests.{lt-ltb, le-ltb, ltb-true, ltb-false, eqb-true, eqb-false, not-false, eq-eqb, ne-eqb, le-leb, lt-leb}
-use Rattle.slices.specs.First.{first, any, first-is, found, nowhere}
+use Rattle.slices.specs.First.{first, any, found, nowhere}
 use Rattle.mesh.specs.Mesh.{faces, start, end, arity, run, faceOf, faceAfter, next, nextIn, pairOf, window, windowIs}
 use Rattle.mesh.specs.Tests.{falls, wrongOffsets, wrongShape, tooMany, limit, short, outside, verdict, passed, sizeTests, faceTests}
-use Rattle.mesh.specs.declared.Verdict.the-variants.{Good, Bad}
+use Rattle.mesh.specs.declared.Verdict.the-variants.{Good}
 use lib.Ieee.{Float}
 
 -- offsets o over n corners

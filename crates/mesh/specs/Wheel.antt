@@ -1,23 +1,22 @@
 -- What tests 1 to 11 leave known of a mesh, and the laws of the corners round a vertex: each that starts there once.
 -- Assumes nothing.
-use Prim.Native.Nat.{ℕ, zero, suc, _+_, _-_, _/_, _≤_, _<_, zero-le}
+use Prim.Native.Nat.{ℕ, zero, suc, _+_, _-_, _/_, _≤_, _<_}
 use mathlib.Core.Path.{_≡_, refl, sym, _∙_, ap, subst}
 use mathlib.Core.Bool.{Bool, true, false, cond, true≢false}
-use mathlib.Core.List.{List, [], _∷_}
-use mathlib.Core.Logic.{_⊎_, inl, inr, ⊎-elim}
+use mathlib.Core.List.{List}
+use mathlib.Core.Logic.{_⊎_, ⊎-elim}
 use native.Mathlib.Omega.{arith}
-use native.Mathlib.Nat.{add-zero, zero-add, suc-add, add-suc, eq-or-lt-of-le, le-of-eq, lt-irrefl, le-antisymm, le-of-suc-le-suc, lt-of-not-le}
-use native.Mathlib.Numerals.{add-one}
+use native.Mathlib.Nat.{zero-add, suc-add, eq-or-lt-of-le, le-of-eq, lt-irrefl, le-antisymm, le-of-suc-le-suc, lt-of-not-le}
 use lib.ListN.{length, getD}
-use lib.Dec.{ltb, leb, eqb}
+use lib.Dec.{ltb, eqb}
 use lib.Ieee.{Float}
-use borrow.Author.Tests.{lt-ltb, le-ltb, ltb-true, ltb-false, eqb-true, eqb-false, eq-eqb, ne-eqb, leb-false}
-use Rattle.slices.specs.First.{isAt, first, any, count, first-is, nowhere, count-found, not-any}
+use borrow.Author.Tests.{ltb-false, eqb-true, eqb-false, eq-eqb, leb-false}
+use Rattle.slices.specs.First.{isAt, first, first-is, nowhere, count-found, not-any}
 use Rattle.mesh.specs.Mesh.{faces, next, prev, mate, turn, around}
 use Rattle.mesh.specs.Tests.{repeats, outside, facesAt, few, lowest, back, split, verdict, tests, faceTests, roundTests, fullTests, passed, both-good, tests-good, full-by-groups}
-use Rattle.mesh.specs.Shape.{Shaped, Full, Limited}
-use Rattle.mesh.specs.Corners.{next-prev, prev-next, prev-lt, next-lt, around-none, around-more}
-use Rattle.mesh.specs.Closed.{Closed, from, to, mate-lt, mate-mate, turn-from, Surface, surface}
+use Rattle.mesh.specs.Shape.{Shaped, Full}
+use Rattle.mesh.specs.Corners.{next-prev, prev-lt, around-none, around-more}
+use Rattle.mesh.specs.Closed.{Closed, from, mate-lt, mate-mate, turn-from, Surface, surface}
 use Rattle.mesh.specs.declared.Verdict.the-variants.{Good}
 use Rattle.mesh.specs.Count.{inj-all}
 use Rattle.mesh.specs.Ring.{ring, length-ring, ring-at}

@@ -9,11 +9,12 @@ ghost use Rattle.slices.specs.First.{first, any, count};
 ghost use Rattle.slices.specs.Lists.{each};
 ghost use Rattle.mesh.specs.Mesh.{faces, pairOf, turnedOf, orderedOf, samePair, nextIn, faceAfter, window, windowIs, mate, faceOf, prevIn, turn, next, prev};
 ghost use Rattle.mesh.specs.Corners.{Paired};
-ghost use Rattle.mesh.specs.Edges.{Sound, up, rank, edges};
+ghost use Rattle.mesh.specs.Edges.{Sound, edge, up, rank, edges};
 ghost use Rattle.mesh.specs.EdgeList.{rise, listing, answerOf, listAfter};
 ghost use Rattle.mesh.specs.Shape.{Shaped, In, Full, Limited, At};
 ghost use Rattle.mesh.specs.Tests.{falls, wrongOffsets, wrongShape, tooMany, short, outside, seen, repeats, met, alone, limit, verdict, numberOf, placeOf, tests, sizeTests, faceTests, edgeTests, facesAt, few, back, split, roundTests, fullTests};
 
+// What the table says: nothing is refused, or a number and its place.
 pub enum Verdict {
     Good,
     Bad { number: u32, place: u32 },
@@ -192,24 +193,28 @@ fn repeat_at(offsets: &[u32], corners: &[u32]) -> usize
 
 // ---- directed edges
 
+// An edge is two numbers, passed by value.
 pub fn pair(a: u32, b: u32) -> [u32; 2]
     ensures { λ r. ⌜ r ≡ pairOf a b ⌝ }
 {
     [a, b]
 }
 
+// Turned round.
 pub fn turned(e: [u32; 2]) -> [u32; 2]
     ensures { λ r. ⌜ r ≡ turnedOf e ⌝ }
 {
     [e[1], e[0]]
 }
 
+// The smaller number first.
 pub fn ordered(e: [u32; 2]) -> [u32; 2]
     ensures { λ r. ⌜ r ≡ orderedOf e ⌝ }
 {
     if e[1] < e[0] { turned(e) } else { [e[0], e[1]] }
 }
 
+// Whether two are the same, in the same direction.
 pub fn same(e: [u32; 2], d: [u32; 2]) -> bool
     ensures { λ r. ⌜ r ≡ samePair e d ⌝ }
 {
@@ -636,6 +641,16 @@ pub fn mate_of(offsets: &[u32], corners: &[u32], c: usize) -> usize
 {
     let f = face_of(offsets, c);
     mate_in(offsets, corners, f, c)
+}
+
+// The edge of `c`: its window, the smaller number first.
+pub fn edge_of(offsets: &[u32], corners: &[u32], c: usize) -> [u32; 2]
+    requires { ⌜ Sound (now offsets) (now corners) ⌝ }
+    requires { ⌜ c < length (now corners) ⌝ }
+    ensures { λ r. ⌜ r ≡ edge (now (offsets .entry)) (now (corners .entry)) c ⌝ }
+{
+    let f = face_of(offsets, c);
+    ordered(window_in(offsets, corners, f, c))
 }
 
 // Whether the window of corner `c`, which is of face `f`, ascends.

@@ -1,3 +1,5 @@
+use Prim.Native.Nat.{_<_}
+use lib.ListN.{length}
 use mathlib.Core.Path.{_∙_, sym, refl}
 use native.Mathlib.Omega.{arith}
 use native.Mathlib.Nat.{le-refl}
@@ -24,7 +26,8 @@ ups-below-requires c κs = ((tests-sound _ _ _ (sym (c .before .before .check .e
 
 returns-2 : tie.Need-returns-2
 returns-2 c =
-    came _ _ _ _ _ (listing-tight _ _ _ _ (sym (c .before .before .before .before .check .ensures) ∙ c .before .before .enum-told .given .1) _ (c .before .ups-below .ensures) (c .if1 .taken)) refl refl
+    let h : length (c .before .before .before .before .before .before .before .before .args .out .now) < c .before .ups-below .result = omega arith in
+    came _ _ _ _ _ (listing-tight _ _ _ _ (sym (c .before .before .before .before .check .ensures) ∙ c .before .before .enum-told .given .1) _ (c .before .ups-below .ensures) h) refl refl
 
 put-edges-requires : tie.Need-put-edges-requires
 put-edges-requires c κs =
