@@ -15,7 +15,7 @@ use Rattle.slices.specs.First.{isAt, first, first-is, nowhere, count-found, not
 use Rattle.mesh.specs.Mesh.{faces, next, prev, mate, turn, around}
 use Rattle.mesh.specs.Tests.{repeats, outside, facesAt, few, lowest, back, split, verdict, tests, faceTests, roundTests, fullTests, passed, both-good, tests-good, full-by-groups}
 use Rattle.mesh.specs.Shape.{Shaped, Full}
-use Rattle.mesh.specs.Corners.{next-prev, prev-lt, around-none, around-more}
+use Rattle.mesh.specs.Corners.{next-prev, prev-lt, around-none, around-more, turn-lt as turn-below}
 use Rattle.mesh.specs.Closed.{Closed, from, mate-lt, mate-mate, turn-from, Surface, surface}
 use Rattle.mesh.specs.declared.Verdict.the-variants.{Good}
 use Rattle.mesh.specs.Count.{inj-all}
@@ -63,8 +63,7 @@ place o k c = first (λ j. eqb (around o k (lowest k (getD k c 0)) j) c) (facesA
 -- ---- turns, where the mesh is closed
 module _ (o k : List ℕ) (s : Shaped o (length k)) (w : Closed o k) where
   pub turn-lt : (c : ℕ) → c < length k → turn o k c < length k
-  unfolding turn
-  turn-lt c h = mate-lt o k w (prev o c) (prev-lt o _ s c h)
+  turn-lt c h = turn-below o k s (mate-lt o k w) c h
 
   pub turn-inj : (c d : ℕ) → c < length k → d < length k → turn o k c ≡ turn o k d → c ≡ d
   unfolding turn

@@ -1,17 +1,16 @@
 // The mesh: its check by the refusal table, its corners, and its edges.
 
 ghost use mathlib.Core.Path.{_≡_};
-ghost use mathlib.Core.Bool.{not};
-ghost use Prim.Native.Nat.{_+_, _-_, _<_, _≤_, _/_};
-ghost use lib.ListN.{length, getD};
+ghost use Prim.Native.Nat.{_+_, _<_, _≤_};
+ghost use lib.ListN.{length};
 ghost use lib.Seq.{sets};
-ghost use Rattle.slices.specs.First.{first, any, count};
+ghost use Rattle.slices.specs.First.{first, count};
 ghost use Rattle.slices.specs.Lists.{each};
 ghost use Rattle.mesh.specs.Mesh.{faces, pairOf, turnedOf, orderedOf, samePair, nextIn, faceAfter, window, windowIs, mate, faceOf, prevIn, turn, next, prev};
 ghost use Rattle.mesh.specs.Corners.{Paired};
 ghost use Rattle.mesh.specs.Edges.{Sound, edge, up, rank, edges};
 ghost use Rattle.mesh.specs.EdgeList.{rise, listing, answerOf, listAfter};
-ghost use Rattle.mesh.specs.Shape.{Shaped, In, Full, Limited, At};
+ghost use Rattle.mesh.specs.Shape.{Shaped, In, Full, Limited};
 ghost use Rattle.mesh.specs.Tests.{falls, wrongOffsets, wrongShape, tooMany, short, outside, seen, repeats, met, alone, limit, verdict, numberOf, placeOf, tests, sizeTests, faceTests, edgeTests, facesAt, few, back, split, roundTests, fullTests};
 
 // What the table says: nothing is refused, or a number and its place.
