@@ -90,7 +90,7 @@ pub rank-down : (o k : List ℕ) (c r m : ℕ) → up o k c ≡ false → m ≡ 
 unfolding rank
 rank-down o k c r m e p h = rw (e, ← p) h
 
-module _ (o k : List ℕ) (s : Sound o k) where
+module _ (o k : List ℕ) (s : Faced o k) where
   pub next-below : (c : ℕ) → c < length k → next o c < length k
   next-below c h = next-lt o (length k) (s .shaped) c h
 
@@ -111,6 +111,10 @@ module _ (o k : List ℕ) (s : Sound o k) where
   unfolding prev
   prev-own c f r h e q = q ∙ ap (λ (g : ℕ). prevIn o g c) e
 
+  pub edges-few : edges o k ≤ 60000
+  edges-few = let w = count-le (up o k) (length k) in let z = s .few in omega arith
+
+module _ (o k : List ℕ) (s : Sound o k) where
   rank-of : (c : ℕ) → c < length k → (b : Bool) → count (up o k) (cond b c (mate o k c)) ≤ 60000
   rank-of c h true = let w = count-le (up o k) c in let z = s .few in omega arith
   rank-of c h false = let w = count-le (up o k) (mate o k c) in let z = s .few in let m = s .paired c h in omega arith
@@ -118,6 +122,3 @@ module _ (o k : List ℕ) (s : Sound o k) where
   pub rank-few : (c : ℕ) → c < length k → rank o k c ≤ 60000
   unfolding rank
   rank-few c h = rank-of c h (up o k c)
-
-  pub edges-few : edges o k ≤ 60000
-  edges-few = let w = count-le (up o k) (length k) in let z = s .few in omega arith

@@ -8,7 +8,7 @@ ghost use Rattle.slices.specs.First.{first, count};
 ghost use Rattle.slices.specs.Lists.{each};
 ghost use Rattle.mesh.specs.Mesh.{faces, pairOf, turnedOf, orderedOf, samePair, nextIn, faceAfter, window, windowIs, mate, faceOf, prevIn, turn, next, prev};
 ghost use Rattle.mesh.specs.Corners.{Paired};
-ghost use Rattle.mesh.specs.Edges.{Sound, edge, up, rank, edges};
+ghost use Rattle.mesh.specs.Edges.{Faced, Sound, edge, up, rank, edges};
 ghost use Rattle.mesh.specs.EdgeList.{rise, listing, answerOf, listAfter};
 ghost use Rattle.mesh.specs.Shape.{Shaped, In, Full, Limited};
 ghost use Rattle.mesh.specs.Tests.{falls, wrongOffsets, wrongShape, tooMany, short, outside, seen, repeats, met, alone, limit, verdict, numberOf, placeOf, tests, sizeTests, faceTests, edgeTests, facesAt, few, back, split, roundTests, fullTests};
@@ -614,7 +614,7 @@ pub fn check_full(offsets: &[u32], corners: &[u32], coords: &[f32]) -> Verdict
 
 // The corner after `c`, round its face.
 pub fn next_of(offsets: &[u32], corners: &[u32], c: usize) -> usize
-    requires { ⌜ Sound (now offsets) (now corners) ⌝ }
+    requires { ⌜ Faced (now offsets) (now corners) ⌝ }
     requires { ⌜ c < length (now corners) ⌝ }
     ensures { λ r. ⌜ r ≡ next (now (offsets .entry)) c ⌝ }
 {
@@ -624,7 +624,7 @@ pub fn next_of(offsets: &[u32], corners: &[u32], c: usize) -> usize
 
 // The corner before `c`, round its face.
 pub fn prev_of(offsets: &[u32], corners: &[u32], c: usize) -> usize
-    requires { ⌜ Sound (now offsets) (now corners) ⌝ }
+    requires { ⌜ Faced (now offsets) (now corners) ⌝ }
     requires { ⌜ c < length (now corners) ⌝ }
     ensures { λ r. ⌜ r ≡ prev (now (offsets .entry)) c ⌝ }
 {
@@ -644,7 +644,7 @@ pub fn mate_of(offsets: &[u32], corners: &[u32], c: usize) -> usize
 
 // The edge of `c`: its window, the smaller number first.
 pub fn edge_of(offsets: &[u32], corners: &[u32], c: usize) -> [u32; 2]
-    requires { ⌜ Sound (now offsets) (now corners) ⌝ }
+    requires { ⌜ Faced (now offsets) (now corners) ⌝ }
     requires { ⌜ c < length (now corners) ⌝ }
     ensures { λ r. ⌜ r ≡ edge (now (offsets .entry)) (now (corners .entry)) c ⌝ }
 {
@@ -667,7 +667,7 @@ pub fn up_in(offsets: &[u32], corners: &[u32], f: usize, c: usize) -> bool
 
 // Whether the window of `c` ascends.
 pub fn up_of(offsets: &[u32], corners: &[u32], c: usize) -> bool
-    requires { ⌜ Sound (now offsets) (now corners) ⌝ }
+    requires { ⌜ Faced (now offsets) (now corners) ⌝ }
     requires { ⌜ c < length (now corners) ⌝ }
     ensures { λ r. ⌜ r ≡ up (now (offsets .entry)) (now (corners .entry)) c ⌝ }
 {
@@ -677,7 +677,7 @@ pub fn up_of(offsets: &[u32], corners: &[u32], c: usize) -> bool
 
 // How many windows below `stop` ascend.
 pub fn ups_below(offsets: &[u32], corners: &[u32], stop: usize) -> usize
-    requires { ⌜ Sound (now offsets) (now corners) ⌝ }
+    requires { ⌜ Faced (now offsets) (now corners) ⌝ }
     requires { ⌜ stop ≤ length (now corners) ⌝ }
     ensures { λ r. ⌜ r ≡ count (up (now (offsets .entry)) (now (corners .entry))) stop ⌝ }
 {

@@ -3,7 +3,7 @@ use lib.ListN.{length}
 use mathlib.Core.Path.{_∙_, sym, refl}
 use native.Mathlib.Omega.{arith}
 use native.Mathlib.Nat.{le-refl}
-use Rattle.mesh.specs.Edges.{tests-sound, edges-few}
+use Rattle.mesh.specs.Edges.{sound-faced, tests-sound, edges-few}
 use Rattle.mesh.specs.EdgeList.{came, came-done, listing-bad, listing-tight}
 use borrow.Author.Needs.{needs}
 use Rattle.mesh.proofs.to_edges.Statement.{statement}
@@ -22,7 +22,7 @@ enum-told : tie.Need-enum-told
 enum-told c = search needs
 
 ups-below-requires : tie.Need-ups-below-requires
-ups-below-requires c κs = ((tests-sound _ _ _ (sym (c .before .before .check .ensures) ∙ c .enum-told .given .1) .0), le-refl _)
+ups-below-requires c κs = (sound-faced (tests-sound _ _ _ (sym (c .before .before .check .ensures) ∙ c .enum-told .given .1) .0), le-refl _)
 
 returns-2 : tie.Need-returns-2
 returns-2 c =
@@ -36,7 +36,7 @@ put-edges-requires c κs =
 low-requires : tie.Need-low-requires
 low-requires c κs =
     let s = tests-sound _ _ _ (sym (c .before .before .before .before .before .before .before .check .ensures) ∙ c .before .before .before .before .before .enum-told .given .1) .0 in
-    omega (arith, c .before .before .before .before .ups-below .ensures, edges-few _ _ s)
+    omega (arith, c .before .before .before .before .ups-below .ensures, edges-few _ _ (sound-faced s))
 
 same-length : tie.Need-same-length
 same-length c = search needs
