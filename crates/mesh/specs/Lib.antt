@@ -1,0 +1,14 @@
+-- The specs of the mesh: definitions first, then the laws.
+pub mod Mesh
+pub mod Tests
+pub mod Shape
+pub mod Corners
+pub mod Edges
+pub mod Count
+pub mod EdgeList
+pub mod Closed
+pub mod Unlike
+pub mod Ring
+pub mod Wheel
+pub mod Ranks
+pub mod Pieces
