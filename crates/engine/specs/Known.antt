@@ -46,45 +46,35 @@ pub record Ruled (p : Plan) : Type 0 where
   pub mates-one : closes (p .one .shape) ≡ true → asksMates (p .asks) ≡ true
   pub mates-two : closes (p .two .shape) ≡ true → asksMates (p .asks) ≡ true
 
--- the same as a test, which computes where a plan is written out
-abbrev pub counted : Section → Bool
-counted s = leb (s .n) 6 && (leb (s .n) (length (s .slots)) && ltb 0 (length (s .slots)))
+-- the same as a test, which computes where a plan is written out: of a section where a is asked, and of a plan
+abbrev pub served : Asks → Section → Bool
+served a s = (leb (s .n) 6 && leb (s .n) (length (s .slots))) && (ltb 0 (length (s .slots)) && (asksMates a || not (closes (s .shape))))
 
 abbrev pub fits : Plan → Bool
-fits p = counted (p .one) && (counted (p .two) && (asksMates (p .asks) || not (closes (p .one .shape) || closes (p .two .shape))))
+fits p = served (p .asks) (p .one) && served (p .asks) (p .two)
 
 both : (a b : Bool) → a && b ≡ true → (a ≡ true) × (b ≡ true)
 both true b e = (refl, e)
 both false b e = absurd (true≢false (sym e))
 
-slotted : (s : Section) → counted s ≡ true → Slotted s
-slotted s e =
-    let w = both (leb (s .n) 6) (leb (s .n) (length (s .slots)) && ltb 0 (length (s .slots))) e in
-    let v = both (leb (s .n) (length (s .slots))) (ltb 0 (length (s .slots))) (w .1) in
-    record { few = leb-true _ _ (w .0); within = leb-true _ _ (v .0); some = ltb-true _ _ (v .1) }
+mates : (m a : Bool) → m || not a ≡ true → a ≡ true → m ≡ true
+mates true a e h = refl
+mates false true e h = e
+mates false false e h = h
 
-left-needs : (m a b : Bool) → m || not (a || b) ≡ true → a ≡ true → m ≡ true
-left-needs true a b e h = refl
-left-needs false true b e h = absurd (true≢false (sym e))
-left-needs false false b e h = h
-
-right-needs : (m a b : Bool) → m || not (a || b) ≡ true → b ≡ true → m ≡ true
-right-needs true a b e h = refl
-right-needs false true b e h = absurd (true≢false (sym e))
-right-needs false false true e h = absurd (true≢false (sym e))
-right-needs false false false e h = h
+slotted : (a : Asks) (s : Section) → served a s ≡ true → Slotted s × (closes (s .shape) ≡ true → asksMates a ≡ true)
+slotted a s e =
+    let w = both (leb (s .n) 6 && leb (s .n) (length (s .slots))) (ltb 0 (length (s .slots)) && (asksMates a || not (closes (s .shape)))) e in
+    let u = both (leb (s .n) 6) (leb (s .n) (length (s .slots))) (w .0) in
+    let v = both (ltb 0 (length (s .slots))) (asksMates a || not (closes (s .shape))) (w .1) in
+    (record { few = leb-true _ _ (u .0); within = leb-true _ _ (u .1); some = ltb-true _ _ (v .0) }, mates (asksMates a) (closes (s .shape)) (v .1))
 
 pub ruled : (p : Plan) → fits p ≡ true → Ruled p
 ruled p e =
-    let rest = asksMates (p .asks) || not (closes (p .one .shape) || closes (p .two .shape)) in
-    let w = both (counted (p .one)) (counted (p .two) && rest) e in
-    let v = both (counted (p .two)) rest (w .1) in
-    record {
-      one = slotted (p .one) (w .0);
-      two = slotted (p .two) (v .0);
-      mates-one = left-needs (asksMates (p .asks)) (closes (p .one .shape)) (closes (p .two .shape)) (v .1);
-      mates-two = right-needs (asksMates (p .asks)) (closes (p .one .shape)) (closes (p .two .shape)) (v .1);
-    }
+    let w = both (served (p .asks) (p .one)) (served (p .asks) (p .two)) e in
+    let y = slotted (p .asks) (p .one) (w .0) in
+    let z = slotted (p .asks) (p .two) (w .1) in
+    record { one = y .0; two = z .0; mates-one = y .1; mates-two = z .1 }
 
 -- ---- meshes
 

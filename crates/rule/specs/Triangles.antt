@@ -1,21 +1,21 @@
 -- The laws of a face cut into triangles. Assumes nothing.
 use mathlib.Core.Path.{_≡_, refl, sym, _∙_, ap, subst}
 use mathlib.Core.Bool.{Bool, true, false, cond}
-use mathlib.Core.List.{List, [], _∷_, _++_}
-use Prim.Native.Nat.{ℕ, zero, suc, _+_, _-_, _*_, _<_, _≤_}
+use mathlib.Core.List.{List, [], _∷_}
+use Prim.Native.Nat.{ℕ, zero, suc, _+_, _-_, _<_, _≤_}
 use native.Mathlib.Omega.{arith}
 use lib.ListN.{length, getD, set, take, drop}
 use lib.Seq.{sets}
 use lib.Dec.{eqb}
 use lib.Ieee.{Float, lt}
-use borrow.Author.Tests.{eq-eqb, ne-eqb, eqb-true, eqb-false}
+use borrow.Author.Tests.{ne-eqb, eqb-true}
 use Rattle.slices.specs.Lists.{each}
 use Rattle.point.specs.Vector.{subP, magSqP}
 use Rattle.point.specs.Face.{pointAt, InReach}
 use Rattle.point.specs.declared.Point.{Point}
 use Rattle.mesh.specs.Mesh.{faces, start, end, run}
 use Rattle.mesh.specs.Edges.{Faced}
-use Rattle.picks.specs.Runs.{Run, run-of}
+use Rattle.picks.specs.Runs.{run-of}
 use Rattle.rule.specs.Rule.{diagonal, agree, cutOf, triple, triangleOf, triangles}
 use Rattle.rule.specs.Wrote.{Wrote, Room, Space, Ended, wrote-one, wrote-more, room-one, room-each}
 use Rattle.rule.specs.declared.Cut.{Cut}

@@ -258,6 +258,7 @@ pub fn put_places(
 
 pub fn one_if(t: bool) -> usize
     ensures { λ r. ⌜ r ≡ cond t 1 0 ⌝ }
+    ensures { λ r. ⌜ r ≤ 1 ⌝ }
 {
     if t { 1 } else { 0 }
 }

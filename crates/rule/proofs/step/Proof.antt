@@ -1,3 +1,4 @@
+use native.Mathlib.Omega.{arith}
 use Rattle.rule.specs.Slots.{mate-next-is}
 use Rattle.mesh.specs.Edges.{sound-faced}
 use borrow.Author.Needs.{needs}
@@ -32,7 +33,7 @@ mate-of-requires-2 : tie.Need-mate-of-requires-2
 mate-of-requires-2 c κs = search needs
 
 next-of-requires-2 : tie.Need-next-of-requires-2
-next-of-requires-2 c κs = (sound-faced (c .before .before .before .before .before .pre .0), rw (c .mate-of2 .ensures) (c .before .before .before .before .before .pre .0 .paired _ (c .before .before .before .before .before .pre .1)))
+next-of-requires-2 c κs = (sound-faced (c .before .before .before .before .before .pre .0), omega (arith, c .mate-of2 .ensures, c .before .before .before .before .before .pre .0 .paired _ (c .before .before .before .before .before .pre .1)))
 
 enum-told-6 : tie.Need-enum-told-6
 enum-told-6 c = search needs

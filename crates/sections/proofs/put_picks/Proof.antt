@@ -10,7 +10,7 @@ use Rattle.mesh.specs.Edges.{sound-faced}
 use Rattle.picks.specs.Picks.{picked}
 use Rattle.rule.specs.Rule.{old, shapeFaces}
 use Rattle.rule.specs.Wrote.{Wrote, room-as, wrote-as, room-each, wrote-none, wrote-more, wrote-longs}
-use Rattle.rule.specs.Sections.{pick-here, picks-section, count-step, bit-le}
+use Rattle.rule.specs.Sections.{pick-here, picks-section, count-step}
 use Rattle.rule.specs.declared.Move.the-variants.{Here}
 use Rattle.rule.specs.declared.Shape.the-variants.{Picks}
 use Rattle.sections.proofs.put_picks.Statement.{statement}
@@ -48,12 +48,12 @@ one-if-requires c κs = search needs
 add-seen : tie.Need-add-seen Inv-loop μ-loop
 add-seen c =
     let s = c .before .before .before .before .before .before .before .before .before .before .before .before .before .before .before .before .before .before .before in
-    omega (arith, c .before .before .before .before .before .before .before .before .before .before .loop .inv .1 .0, count-le (picked (s .args .mask) (s .args .arities .now) (s .args .numbers .now) (s .args .offsets .now) (s .args .corners .now) (s .args .coords .now)) (c .before .before .before .before .before .before .before .before .before .before .loop .f), s .pre .0 .few-faces, bit-le _ (c .before .before .before .before .before .before .before .before .picks .result) (c .one-if .ensures))
+    omega (arith, c .before .before .before .before .before .before .before .before .before .before .loop .inv .1 .0, count-le (picked (s .args .mask) (s .args .arities .now) (s .args .numbers .now) (s .args .offsets .now) (s .args .corners .now) (s .args .coords .now)) (c .before .before .before .before .before .before .before .before .before .before .loop .f), s .pre .0 .few-faces, c .one-if .ensures .1, c .before .before .before .before .before .before .before .before .before .loop-test .taken)
 
 add-f : tie.Need-add-f Inv-loop μ-loop
 add-f c =
     let s = c .before .before .before .before .before .before .before .before .before .before .before .before .before .before .before .before .before .before .before in
-    omega (arith, s .pre .0 .few-faces)
+    omega (arith, s .pre .0 .few-faces, c .before .before .before .before .before .before .before .before .before .loop-test .taken)
 
 loop-less : tie.Need-loop-less Inv-loop μ-loop
 loop-less c = omega arith
@@ -61,7 +61,7 @@ loop-less c = omega arith
 loop-again : tie.Need-loop-again Inv-loop μ-loop
 loop-again c =
     let s = c .before .before .before .before .before .before .before .before .before .before .before .before .before .before .before .before .before .before .before in
-    (omega arith, (count-step (picked (s .args .mask) (s .args .arities .now) (s .args .numbers .now) (s .args .offsets .now) (s .args .corners .now) (s .args .coords .now)) _ _ _ _ (c .before .before .before .before .before .before .before .before .before .before .loop .inv .1 .0) (c .before .before .before .before .before .before .before .before .picks .ensures) (c .one-if .ensures), wrote-more (λ i. shapeFaces Picks (take (s .args .s .n) (s .args .s .slots)) (old Here) (s .args .b) (s .args .mask) (s .args .arities .now) (s .args .numbers .now) (s .args .offsets .now) (s .args .corners .now) (s .args .coords .now) i) _ (c .before .before .before .before .before .before .before .before .before .before .loop .inv .1 .1) (wrote-as (pick-here (take (s .args .s .n) (s .args .s .slots)) (old Here) (s .args .b) (s .args .mask) (s .args .arities .now) (s .args .numbers .now) (s .args .offsets .now) (s .args .corners .now) (s .args .coords .now) _ _ _ (c .before .before .before .before .before .before .before .before .before .before .loop .inv .1 .0) (c .before .before .before .before .before .before .before .before .picks .ensures)) (c .before .before .before .before .before .put-pick .ensures))))
+    (omega (arith, c .before .before .before .before .before .before .before .before .before .loop-test .taken), (count-step (picked (s .args .mask) (s .args .arities .now) (s .args .numbers .now) (s .args .offsets .now) (s .args .corners .now) (s .args .coords .now)) _ _ _ _ (c .before .before .before .before .before .before .before .before .before .before .loop .inv .1 .0) (c .before .before .before .before .before .before .before .before .picks .ensures) (c .one-if .ensures .0), wrote-more (λ i. shapeFaces Picks (take (s .args .s .n) (s .args .s .slots)) (old Here) (s .args .b) (s .args .mask) (s .args .arities .now) (s .args .numbers .now) (s .args .offsets .now) (s .args .corners .now) (s .args .coords .now) i) _ (c .before .before .before .before .before .before .before .before .before .before .loop .inv .1 .1) (wrote-as (pick-here (take (s .args .s .n) (s .args .s .slots)) (old Here) (s .args .b) (s .args .mask) (s .args .arities .now) (s .args .numbers .now) (s .args .offsets .now) (s .args .corners .now) (s .args .coords .now) _ _ _ (c .before .before .before .before .before .before .before .before .before .before .loop .inv .1 .0) (c .before .before .before .before .before .before .before .before .picks .ensures)) (c .before .before .before .before .before .put-pick .ensures))))
 
 same-length : tie.Need-same-length Inv-loop μ-loop
 same-length c = wrote-longs (c .before .loop .inv .1 .1) .0
