@@ -15,6 +15,7 @@ ghost use Rattle.rule.specs.declared.Shape.the-variants.{Picks};
 ghost use Rattle.rule.specs.Sections.{closes, isPicks, Ruled, noMask};
 ghost use Rattle.rule.specs.Sizes.{Counted, Sized};
 ghost use Rattle.rule.specs.Wrote.{Wrote, Room};
+use rule::Shape;
 
 // ---- the size of a section
 
@@ -28,6 +29,7 @@ pub fn arity_of(offsets: &[u32], corners: &[u32], f: usize) -> usize
     slices::look(offsets, f + 1) - slices::look(offsets, f)
 }
 
+// A size of two numbers.
 pub fn sized(faces: usize, corners: usize) -> rule::Size
     ensures { λ r. ⌜ r ≡ record { faces = faces; corners = corners } ⌝ }
 {
@@ -35,19 +37,19 @@ pub fn sized(faces: usize, corners: usize) -> rule::Size
 }
 
 // How many places a section looks at.
-pub fn places(q: rule::Shape, offsets: &[u32], corners: &[u32], coords: &[f32]) -> usize
+pub fn places(q: Shape, offsets: &[u32], corners: &[u32], coords: &[f32]) -> usize
     requires { ⌜ 0 < length (now offsets) ⌝ }
     ensures { λ r. ⌜ r ≡ facePlaces q (now (offsets .entry)) (now (corners .entry)) (now (coords .entry)) ⌝ }
 {
     match q {
-        rule::Shape::Nothing => 0,
-        rule::Shape::Corners => corners.len(),
-        rule::Shape::Ups => corners.len(),
-        rule::Shape::Inner => offsets.len() - 1,
-        rule::Shape::Vertices => coords.len() / 3,
-        rule::Shape::Backward => offsets.len() - 1,
-        rule::Shape::Triangles(_) => offsets.len() - 1,
-        rule::Shape::Picks => offsets.len() - 1,
+        Shape::Nothing => 0,
+        Shape::Corners => corners.len(),
+        Shape::Ups => corners.len(),
+        Shape::Inner => offsets.len() - 1,
+        Shape::Vertices => coords.len() / 3,
+        Shape::Backward => offsets.len() - 1,
+        Shape::Triangles(_) => offsets.len() - 1,
+        Shape::Picks => offsets.len() - 1,
     }
 }
 
@@ -72,22 +74,22 @@ pub fn size_at(
     let q = s.shape;
     let n = s.n;
     match q {
-        rule::Shape::Nothing => sized(0, 0),
-        rule::Shape::Corners => sized(1, n),
-        rule::Shape::Ups => {
+        Shape::Nothing => sized(0, 0),
+        Shape::Corners => sized(1, n),
+        Shape::Ups => {
             if mesh::up_of(offsets, corners, i) {
                 return sized(1, n);
             }
             sized(0, 0)
         }
-        rule::Shape::Inner => sized(1, arity_of(offsets, corners, i)),
-        rule::Shape::Vertices => sized(1, mesh::faces_at(corners, slices::low(i))),
-        rule::Shape::Backward => sized(1, arity_of(offsets, corners, i)),
-        rule::Shape::Triangles(_) => {
+        Shape::Inner => sized(1, arity_of(offsets, corners, i)),
+        Shape::Vertices => sized(1, mesh::faces_at(corners, slices::low(i))),
+        Shape::Backward => sized(1, arity_of(offsets, corners, i)),
+        Shape::Triangles(_) => {
             let m = arity_of(offsets, corners, i) - 2;
             sized(m, 3 * m)
         }
-        rule::Shape::Picks => {
+        Shape::Picks => {
             let m = arity_of(offsets, corners, i);
             if picks::picks(mask, arities, numbers, offsets, corners, coords, i) {
                 return sized(m, n * m);
@@ -196,22 +198,13 @@ pub fn put_place(
     let n = s.n;
     let one = slots[0];
     match q {
-        rule::Shape::Nothing => at,
-        rule::Shape::Corners => rule::put_face(slots, n, b, i, offsets, corners, oo, oc, at),
-        rule::Shape::Ups => rule::put_up(slots, n, b, i, offsets, corners, oo, oc, at),
-        rule::Shape::Inner => rule::put_inner(one, b, i, offsets, corners, oo, oc, at),
-        rule::Shape::Vertices => rule::put_outer(
-            one,
-            b,
-            slices::low(i),
-            offsets,
-            corners,
-            oo,
-            oc,
-            at,
-        ),
-        rule::Shape::Backward => rule::put_backward(i, offsets, corners, oo, oc, at),
-        rule::Shape::Triangles(shorter) => rule::put_cut(
+        Shape::Nothing => at,
+        Shape::Corners => rule::put_face(slots, n, b, i, offsets, corners, oo, oc, at),
+        Shape::Ups => rule::put_up(slots, n, b, i, offsets, corners, oo, oc, at),
+        Shape::Inner => rule::put_inner(one, b, i, offsets, corners, oo, oc, at),
+        Shape::Vertices => rule::put_outer(one, b, slices::low(i), offsets, corners, oo, oc, at),
+        Shape::Backward => rule::put_backward(i, offsets, corners, oo, oc, at),
+        Shape::Triangles(shorter) => rule::put_cut(
             shorter,
             i,
             offsets,
@@ -221,7 +214,7 @@ pub fn put_place(
             oc,
             at,
         ),
-        rule::Shape::Picks => at,
+        Shape::Picks => at,
     }
 }
 
@@ -256,6 +249,7 @@ pub fn put_places(
     a
 }
 
+// One where it is true.
 pub fn one_if(t: bool) -> usize
     ensures { λ r. ⌜ r ≡ cond t 1 0 ⌝ }
     ensures { λ r. ⌜ r ≤ 1 ⌝ }
@@ -298,18 +292,19 @@ pub fn put_picks(
     a
 }
 
-pub fn is_picks(q: rule::Shape) -> bool
+// Whether the faces of a shape are by mask.
+pub fn is_picks(q: Shape) -> bool
     ensures { λ r. ⌜ r ≡ isPicks q ⌝ }
 {
     match q {
-        rule::Shape::Nothing => false,
-        rule::Shape::Corners => false,
-        rule::Shape::Ups => false,
-        rule::Shape::Inner => false,
-        rule::Shape::Vertices => false,
-        rule::Shape::Backward => false,
-        rule::Shape::Triangles(_) => false,
-        rule::Shape::Picks => true,
+        Shape::Nothing => false,
+        Shape::Corners => false,
+        Shape::Ups => false,
+        Shape::Inner => false,
+        Shape::Vertices => false,
+        Shape::Backward => false,
+        Shape::Triangles(_) => false,
+        Shape::Picks => true,
     }
 }
 
