@@ -20,7 +20,7 @@ use Rattle.engine.specs.Result.{Outcome, outcome}
 use Rattle.engine.specs.declared.Asks.the-variants.{Open, Closed, Round}
 use Rattle.operators.specs.Numbers.{third, half, ratioOf, heightOf, quintoHeight, numberTests}
 use Rattle.operators.specs.Sections.{positions, perCorner, perUp, perFace, perVertex, turnedOver, cutUp, perPick, olds, facePoints, pickPoints, cornerPoints, edgePairs, edgeMiddles}
-use Rattle.operators.specs.Rules.{gyroRule, propellorRule, whirlRule, quintoRule, chamferRule, kisRule}
+use Rattle.plans.specs.Rules.{gyroRule, propellorRule, whirlRule, quintoRule, chamferRule, kisRule}
 use Rattle.operators.specs.declared.Number.{Number}
 use Rattle.operators.specs.declared.Number.the-variants.{Absent}
 

@@ -24,7 +24,7 @@ use Rattle.engine.specs.declared.Asks.{Asks}
 use Rattle.engine.specs.declared.Asks.the-variants.{Open, Closed, Round}
 use Rattle.operators.specs.Sections.{olds, pickPoints, cornerPoints, edgePairs}
 use Rattle.operators.specs.Operators.{kept, reverseFaces, reflectCoords, triangulateFaces, amboFaces, amboCoords, dualFaces, dualCoords, kisFaces, kisCoords, chamferFaces, chamferCoords, gyroFaces, gyroCoords, propellorFaces, propellorCoords, whirlFaces, whirlCoords, quintoFaces, quintoCoords}
-use Rattle.operators.specs.Plans.{reversePlan, reflectPlan, triangulatePlan, amboPlan, dualPlan, kisPlan, chamferPlan, gyroPlan, propellorPlan, whirlPlan, quintoPlan}
+use Rattle.plans.specs.Plans.{reversePlan, reflectPlan, triangulatePlan, amboPlan, dualPlan, kisPlan, chamferPlan, gyroPlan, propellorPlan, whirlPlan, quintoPlan}
 
 -- ---- each plan is its operator
 

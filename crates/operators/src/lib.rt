@@ -1,7 +1,6 @@
 // The eleven operators: each a plan, its numbers and a thin public function.
 
 mod numbers;
-mod plans;
 
 use numbers::check_numbers;
 use numbers::height_of;

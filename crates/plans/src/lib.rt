@@ -14,7 +14,7 @@ use spots::Points;
 use spots::Spot;
 use spots::Tip;
 ghost use mathlib.Core.Path.{_≡_};
-ghost use Rattle.operators.specs.Plans.{reversePlan, reflectPlan, triangulatePlan, amboPlan, dualPlan, kisPlan, chamferPlan, gyroPlan, propellorPlan, whirlPlan, quintoPlan};
+ghost use Rattle.plans.specs.Plans.{reversePlan, reflectPlan, triangulatePlan, amboPlan, dualPlan, kisPlan, chamferPlan, gyroPlan, propellorPlan, whirlPlan, quintoPlan};
 
 // ---- slots: which vertex, and where it is seen from a corner
 
