@@ -1,6 +1,7 @@
 // Plays cases back: reads them from standard input and prints a line of answer for each.
 // docs/REPLAY.md says what a case is.
 
+mod checks;
 mod header;
 mod input;
 mod leaves;
@@ -8,6 +9,8 @@ mod lent;
 mod line;
 
 ghost use Rattle.replay.specs.Header.{Within};
+use checks::checked;
+use checks::edges;
 use header::Header;
 use header::header_of;
 use header::within;
@@ -28,8 +31,10 @@ type Bits = [u32; 196608];
 
 type Coords = [f32; 196608];
 
+type Pairs = [[u32; 2]; 65536];
+
 fn known(code: u32) -> bool {
-    20 <= code && code <= 23
+    20 <= code && code <= 26
 }
 
 // The lists of a case; whether they were all there.
@@ -60,13 +65,27 @@ fn read_lists(
 }
 
 // Puts the line of a case together; where it ends.
-fn answer(h: Header, text: &mut Text, corners: &Numbers, bits: &Bits, coords: &Coords) -> usize
+fn answer(
+    h: Header,
+    text: &mut Text,
+    offsets: &Numbers,
+    corners: &Numbers,
+    bits: &Bits,
+    coords: &Coords,
+    pairs: &mut Pairs,
+) -> usize
     requires { ⌜ Within h ⌝ }
 {
     if h.code == 20 {
         return roots(text, h, bits);
     }
-    one_face(text, h, coords, corners)
+    if h.code <= 23 {
+        return one_face(text, h, coords, corners);
+    }
+    if h.code <= 25 {
+        return checked(text, h, offsets, corners, coords);
+    }
+    edges(text, h, offsets, corners, coords, pairs)
 }
 
 // The last line, for what is no case; nothing follows it.
@@ -86,6 +105,7 @@ fn one_case(
     coords: &mut Coords,
     arities: &mut Numbers,
     faces: &mut Numbers,
+    pairs: &mut Pairs,
 ) -> bool {
     let got = read_front(block, 56);
     if got == 0 {
@@ -105,7 +125,7 @@ fn one_case(
         return bad_case(text);
     }
     floats_of(bits, coords, h.coords);
-    let at = answer(h, text, corners, bits, coords);
+    let at = answer(h, text, offsets, corners, bits, coords, pairs);
     end(text, at);
     true
 }
@@ -121,9 +141,22 @@ fn all_cases(
     coords: &mut Coords,
     arities: &mut Numbers,
     faces: &mut Numbers,
+    pairs: &mut Pairs,
 ) {
     let mut left = u64::MAX;
-    while left > 0 && one_case(block, text, offsets, corners, bits, coords, arities, faces) {
+    while left > 0
+        && one_case(
+            block,
+            text,
+            offsets,
+            corners,
+            bits,
+            coords,
+            arities,
+            faces,
+            pairs,
+        )
+    {
         left -= 1;
     }
 }
@@ -137,6 +170,7 @@ fn main() {
     let mut coords = [0.0f32; 196608];
     let mut arities = [0u32; 65536];
     let mut faces = [0u32; 65536];
+    let mut pairs = [[0u32; 2]; 65536];
     all_cases(
         &mut block,
         &mut text,
@@ -146,5 +180,6 @@ fn main() {
         &mut coords,
         &mut arities,
         &mut faces,
+        &mut pairs,
     );
 }

@@ -1,0 +1,100 @@
+// The codes 24 to 26: the two checks of a mesh, and the list of its edges.
+
+ghost use Prim.Native.Nat.{_≤_};
+ghost use lib.ListN.{length};
+use crate::header::Header;
+use crate::lent::fill_pairs;
+use crate::line::Text;
+use crate::line::put_name;
+use crate::line::put_number;
+use crate::line::put_pairs;
+use mesh::Listing;
+use mesh::Verdict;
+
+// The answer for the mesh of a case: what a check says of it.
+pub fn checked(
+    text: &mut Text,
+    h: Header,
+    offsets: &[u32],
+    corners: &[u32],
+    coords: &[f32],
+) -> usize
+    requires { ⌜ h .offsets ≤ length (now offsets) ⌝ }
+    requires { ⌜ h .corners ≤ length (now corners) ⌝ }
+    requires { ⌜ h .coords ≤ length (now coords) ⌝ }
+{
+    let o = h.offsets;
+    let c = h.corners;
+    let x = h.coords;
+    of_mesh(text, h.code, &offsets[..o], &corners[..c], &coords[..x])
+}
+
+// 24 the check of numbers 1, 2 and 4 to 9; 25 that of 10 and 11 too.
+fn of_mesh(text: &mut Text, code: u32, offsets: &[u32], corners: &[u32], coords: &[f32]) -> usize {
+    if code == 24 {
+        return put_verdict(text, mesh::check(offsets, corners, coords));
+    }
+    put_verdict(text, mesh::check_full(offsets, corners, coords))
+}
+
+fn put_verdict(text: &mut Text, v: Verdict) -> usize {
+    let place = put_number(text, 0, mesh::number_of(v));
+    put_number(text, place, mesh::place_of(v))
+}
+
+// The answer for the mesh of a case: its edges, listed into the lent pairs.
+pub fn edges(
+    text: &mut Text,
+    h: Header,
+    offsets: &[u32],
+    corners: &[u32],
+    coords: &[f32],
+    pairs: &mut [[u32; 2]],
+) -> usize
+    requires { ⌜ h .offsets ≤ length (now offsets) ⌝ }
+    requires { ⌜ h .corners ≤ length (now corners) ⌝ }
+    requires { ⌜ h .coords ≤ length (now coords) ⌝ }
+    requires { ⌜ h .«out_offsets» ≤ length (now pairs) ⌝ }
+{
+    let o = h.offsets;
+    let c = h.corners;
+    let x = h.coords;
+    let p = h.out_offsets;
+    list_edges(
+        text,
+        h.fill,
+        &offsets[..o],
+        &corners[..c],
+        &coords[..x],
+        &mut pairs[..p],
+    )
+}
+
+// 26: the pairs are printed whole, with what the call left alone.
+fn list_edges(
+    text: &mut Text,
+    fill: u32,
+    offsets: &[u32],
+    corners: &[u32],
+    coords: &[f32],
+    pairs: &mut [[u32; 2]],
+) -> usize {
+    fill_pairs(pairs, fill);
+    let listing = mesh::to_edges(offsets, corners, coords, pairs);
+    let past = put_listing(text, listing);
+    let e = put_name(text, past, b"e");
+    put_pairs(text, e, pairs)
+}
+
+fn put_listing(text: &mut Text, listing: Listing) -> usize {
+    match listing {
+        Listing::Listed { edges } => put_three(text, 0, 0, edges),
+        Listing::Refused { number, place } => put_three(text, number, place, 0),
+    }
+}
+
+fn put_three(text: &mut Text, a: u32, b: u32, c: u32) -> usize {
+    let past_a = put_number(text, 0, a);
+    let past_b = put_number(text, past_a, b);
+    put_number(text, past_b, c)
+}
