@@ -8,6 +8,7 @@ use crate::line::Text;
 use crate::line::put_name;
 use crate::line::put_number;
 use crate::line::put_pairs;
+use crate::line::put_three;
 use mesh::Listing;
 use mesh::Verdict;
 
@@ -88,13 +89,7 @@ fn list_edges(
 
 fn put_listing(text: &mut Text, listing: Listing) -> usize {
     match listing {
-        Listing::Listed { edges } => put_three(text, 0, 0, edges),
-        Listing::Refused { number, place } => put_three(text, number, place, 0),
+        Listing::Listed { edges } => put_three(text, 0, 0, 0, edges),
+        Listing::Refused { number, place } => put_three(text, 0, number, place, 0),
     }
-}
-
-fn put_three(text: &mut Text, a: u32, b: u32, c: u32) -> usize {
-    let past_a = put_number(text, 0, a);
-    let past_b = put_number(text, past_a, b);
-    put_number(text, past_b, c)
 }

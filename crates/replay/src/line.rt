@@ -52,6 +52,13 @@ pub fn put_number(text: &mut Text, at: usize, n: u32) -> usize {
     put_digits(text, to, n)
 }
 
+// Three fields of decimal digits.
+pub fn put_three(text: &mut Text, at: usize, a: u32, b: u32, c: u32) -> usize {
+    let past_a = put_number(text, at, a);
+    let past_b = put_number(text, past_a, b);
+    put_number(text, past_b, c)
+}
+
 fn put_digits(text: &mut Text, at: usize, n: u32) -> usize {
     let mut digits = [0u8; 20];
     let k = io::decimal(n as u64, &mut digits);

@@ -1,6 +1,7 @@
 // Plays cases back: reads them from standard input and prints a line of answer for each.
 // docs/REPLAY.md says what a case is.
 
+mod calls;
 mod checks;
 mod header;
 mod input;
@@ -9,6 +10,7 @@ mod lent;
 mod line;
 
 ghost use Rattle.replay.specs.Header.{Within};
+use calls::operator;
 use checks::checked;
 use checks::edges;
 use header::Header;
@@ -34,7 +36,7 @@ type Coords = [f32; 196608];
 type Pairs = [[u32; 2]; 65536];
 
 fn known(code: u32) -> bool {
-    20 <= code && code <= 26
+    1 <= code && code <= 11 || 20 <= code && code <= 26
 }
 
 // The lists of a case; whether they were all there.
@@ -72,10 +74,29 @@ fn answer(
     corners: &Numbers,
     bits: &Bits,
     coords: &Coords,
+    arities: &Numbers,
+    faces: &Numbers,
+    xo: &mut Numbers,
+    xc: &mut Numbers,
+    xx: &mut Coords,
     pairs: &mut Pairs,
 ) -> usize
     requires { ⌜ Within h ⌝ }
 {
+    if h.code <= 11 {
+        return operator(
+            text,
+            h,
+            offsets,
+            corners,
+            coords,
+            arities,
+            faces,
+            xo,
+            xc,
+            xx,
+        );
+    }
     if h.code == 20 {
         return roots(text, h, bits);
     }
@@ -105,6 +126,9 @@ fn one_case(
     coords: &mut Coords,
     arities: &mut Numbers,
     faces: &mut Numbers,
+    xo: &mut Numbers,
+    xc: &mut Numbers,
+    xx: &mut Coords,
     pairs: &mut Pairs,
 ) -> bool {
     let got = read_front(block, 56);
@@ -125,7 +149,20 @@ fn one_case(
         return bad_case(text);
     }
     floats_of(bits, coords, h.coords);
-    let at = answer(h, text, offsets, corners, bits, coords, pairs);
+    let at = answer(
+        h,
+        text,
+        offsets,
+        corners,
+        bits,
+        coords,
+        arities,
+        faces,
+        xo,
+        xc,
+        xx,
+        pairs,
+    );
     end(text, at);
     true
 }
@@ -141,6 +178,9 @@ fn all_cases(
     coords: &mut Coords,
     arities: &mut Numbers,
     faces: &mut Numbers,
+    xo: &mut Numbers,
+    xc: &mut Numbers,
+    xx: &mut Coords,
     pairs: &mut Pairs,
 ) {
     let mut left = u64::MAX;
@@ -154,6 +194,9 @@ fn all_cases(
             coords,
             arities,
             faces,
+            xo,
+            xc,
+            xx,
             pairs,
         )
     {
@@ -170,6 +213,9 @@ fn main() {
     let mut coords = [0.0f32; 196608];
     let mut arities = [0u32; 65536];
     let mut faces = [0u32; 65536];
+    let mut xo = [0u32; 65536];
+    let mut xc = [0u32; 65536];
+    let mut xx = [0.0f32; 196608];
     let mut pairs = [[0u32; 2]; 65536];
     all_cases(
         &mut block,
@@ -180,6 +226,9 @@ fn main() {
         &mut coords,
         &mut arities,
         &mut faces,
+        &mut xo,
+        &mut xc,
+        &mut xx,
         &mut pairs,
     );
 }

@@ -1,0 +1,211 @@
+// The codes 1 to 11: the operators, called as the words of the header say.
+
+ghost use Prim.Native.Nat.{_<_, _≤_};
+ghost use lib.ListN.{length};
+use crate::header::Header;
+use crate::input::float_of;
+use crate::lent::fill_mesh;
+use crate::line::Text;
+use crate::line::put_mesh;
+use crate::line::put_three;
+use engine::Answer;
+use operators::Number;
+use picks::Mask;
+
+// Whether a bit of the flags is set; the bit is told by its value.
+fn set(flags: u32, bit: u32) -> bool
+    requires { ⌜ 0 < bit ⌝ }
+{
+    flags / bit % 2 == 1
+}
+
+fn number_of(given: bool, bits: u32) -> Number {
+    if given {
+        return Number::Given(float_of(bits));
+    }
+    Number::Absent
+}
+
+fn ratio_of(h: Header) -> Number {
+    number_of(set(h.flags, 1), h.ratio)
+}
+
+fn height_of(h: Header) -> Number {
+    number_of(set(h.flags, 2), h.height)
+}
+
+fn mask_of(flags: u32) -> Mask {
+    Mask {
+        arities: set(flags, 4),
+        numbers: set(flags, 8),
+        regular: set(flags, 16),
+    }
+}
+
+// 3 dual, 8 reflect, 9 reverse, 11 triangulate: the operators without a number.
+fn plain(
+    h: Header,
+    offsets: &[u32],
+    corners: &[u32],
+    coords: &[f32],
+    xo: &mut [u32],
+    xc: &mut [u32],
+    xx: &mut [f32],
+) -> Answer {
+    if h.code == 3 {
+        return operators::dual(offsets, corners, coords, xo, xc, xx);
+    }
+    if h.code == 8 {
+        return operators::reflect(offsets, corners, coords, xo, xc, xx);
+    }
+    if h.code == 9 {
+        return operators::reverse(offsets, corners, coords, xo, xc, xx);
+    }
+    let shorter = !set(h.flags, 32);
+    operators::triangulate(offsets, corners, coords, shorter, xo, xc, xx)
+}
+
+// 1 ambo, 2 chamfer, 4 gyro, 6 propellor, 7 quinto, 10 whirl: those with numbers; then plain ones.
+fn by_numbers(
+    h: Header,
+    offsets: &[u32],
+    corners: &[u32],
+    coords: &[f32],
+    xo: &mut [u32],
+    xc: &mut [u32],
+    xx: &mut [f32],
+) -> Answer {
+    let ratio = ratio_of(h);
+    let height = height_of(h);
+    if h.code == 1 {
+        return operators::ambo(offsets, corners, coords, ratio, xo, xc, xx);
+    }
+    if h.code == 2 {
+        return operators::chamfer(offsets, corners, coords, ratio, xo, xc, xx);
+    }
+    if h.code == 4 {
+        return operators::gyro(offsets, corners, coords, ratio, height, xo, xc, xx);
+    }
+    if h.code == 6 {
+        return operators::propellor(offsets, corners, coords, ratio, xo, xc, xx);
+    }
+    if h.code == 7 {
+        return operators::quinto(offsets, corners, coords, height, xo, xc, xx);
+    }
+    if h.code == 10 {
+        return operators::whirl(offsets, corners, coords, ratio, height, xo, xc, xx);
+    }
+    plain(h, offsets, corners, coords, xo, xc, xx)
+}
+
+// The operator of any code; 5 is kis, the one with a mask.
+fn called(
+    h: Header,
+    offsets: &[u32],
+    corners: &[u32],
+    coords: &[f32],
+    arities: &[u32],
+    faces: &[u32],
+    xo: &mut [u32],
+    xc: &mut [u32],
+    xx: &mut [f32],
+) -> Answer {
+    if h.code == 5 {
+        let mask = mask_of(h.flags);
+        let height = height_of(h);
+        return operators::kis(
+            offsets,
+            corners,
+            coords,
+            height,
+            mask,
+            arities,
+            faces,
+            xo,
+            xc,
+            xx,
+        );
+    }
+    by_numbers(h, offsets, corners, coords, xo, xc, xx)
+}
+
+// The number, place and step of a refusal, then the counts of the result; zeros for what is not.
+fn put_answer(text: &mut Text, answer: Answer) -> usize {
+    match answer {
+        Answer::Done(counts) => {
+            let at = put_three(text, 0, 0, 0, 0);
+            put_three(text, at, counts.v, counts.e, counts.f)
+        }
+        Answer::Refused {
+            number,
+            place,
+            step,
+        } => {
+            let at = put_three(text, 0, number, place, step);
+            put_three(text, at, 0, 0, 0)
+        }
+    }
+}
+
+// The lent mesh is printed whole, with what the call left alone.
+fn play(
+    text: &mut Text,
+    h: Header,
+    offsets: &[u32],
+    corners: &[u32],
+    coords: &[f32],
+    arities: &[u32],
+    faces: &[u32],
+    xo: &mut [u32],
+    xc: &mut [u32],
+    xx: &mut [f32],
+) -> usize {
+    fill_mesh(xo, xc, xx, h.fill);
+    let answer = called(h, offsets, corners, coords, arities, faces, xo, xc, xx);
+    let at = put_answer(text, answer);
+    put_mesh(text, at, xo, xc, xx)
+}
+
+// The answer of an operator for the mesh of a case, written into the lent one.
+pub fn operator(
+    text: &mut Text,
+    h: Header,
+    offsets: &[u32],
+    corners: &[u32],
+    coords: &[f32],
+    arities: &[u32],
+    faces: &[u32],
+    xo: &mut [u32],
+    xc: &mut [u32],
+    xx: &mut [f32],
+) -> usize
+    requires { ⌜ h .offsets ≤ length (now offsets) ⌝ }
+    requires { ⌜ h .corners ≤ length (now corners) ⌝ }
+    requires { ⌜ h .coords ≤ length (now coords) ⌝ }
+    requires { ⌜ h .arities ≤ length (now arities) ⌝ }
+    requires { ⌜ h .faces ≤ length (now faces) ⌝ }
+    requires { ⌜ h .«out_offsets» ≤ length (now xo) ⌝ }
+    requires { ⌜ h .«out_corners» ≤ length (now xc) ⌝ }
+    requires { ⌜ h .«out_coords» ≤ length (now xx) ⌝ }
+{
+    let o = h.offsets;
+    let c = h.corners;
+    let x = h.coords;
+    let a = h.arities;
+    let f = h.faces;
+    let p = h.out_offsets;
+    let q = h.out_corners;
+    let r = h.out_coords;
+    play(
+        text,
+        h,
+        &offsets[..o],
+        &corners[..c],
+        &coords[..x],
+        &arities[..a],
+        &faces[..f],
+        &mut xo[..p],
+        &mut xc[..q],
+        &mut xx[..r],
+    )
+}
