@@ -6,7 +6,7 @@ use crate::case::{Case, Function};
 use crate::mesh::Mesh;
 use crate::meshes::{self, AMPLE};
 use crate::numbers;
-use crate::operator::{Operator, Parameters, OPERATORS};
+use crate::operator::{Operator, OPERATORS};
 use crate::random::Random;
 use crate::recipe::{self, Lent, LISTS};
 use crate::rust_side;
@@ -103,14 +103,7 @@ fn results(random: &mut Random) -> Result<bool, String> {
 fn lists(random: &mut Random) -> Result<bool, String> {
     let list = random.pick(&LISTS);
     let mesh = meshes::fanned(random, 40);
-    let parameters = Parameters {
-        ratio: random.pick(&[None, Some(0.25), Some(2.0)]),
-        height: random.pick(&[None, Some(0.5), Some(-0.25)]),
-        arities: random.pick(&[None, None, Some(vec![]), Some(vec![4]), Some(vec![3, 5])]),
-        faces: None,
-        regular: random.once_in(3),
-        longer: false,
-    };
+    let parameters = calls::list_parameters(random);
     let lent = Lent { work: [AMPLE; 2], output: AMPLE };
     match recipe::run_steps(&list.steps(&parameters), &mesh, lent).outcome {
         Ok(result) => {

@@ -2,7 +2,9 @@
 use crate::arithmetic;
 use crate::case::{Case, Function};
 use crate::mesh::{Mesh, Point, LIMIT};
+use crate::meshes::AMPLE;
 use crate::operator::{Operator, Parameters};
+use crate::recipe::{self, Lent, List, RefusedAt};
 use crate::rust_side;
 use crate::table::{self, Refusal};
 use std::fmt::Write;
@@ -30,6 +32,7 @@ pub enum Outcome {
 pub fn answer(case: &Case) -> Answer {
     match case.function {
         Function::Operator(operator) => operator_answer(operator, case),
+        Function::List(list) => list_answer(list, case),
         Function::Root => done(root_line(&case.mesh.coordinates)),
         Function::Centroid => face_answer(case, |mesh| point_line(rust_side::centroid(mesh))),
         Function::Normal => face_answer(case, |mesh| point_line(rust_side::normal(mesh))),
@@ -64,16 +67,28 @@ fn done(line: String) -> Answer {
 
 fn operator_answer(operator: Operator, case: &Case) -> Answer {
     let result = call(operator, &case.parameters, &case.mesh, case.room);
+    mesh_answer(result.map_err(|refusal| RefusedAt { step: 0, refusal }), case)
+}
+
+/// A list that is lent ample work meshes.
+fn list_answer(list: List, case: &Case) -> Answer {
+    let lent = Lent { work: [AMPLE; 2], output: case.room };
+    mesh_answer(recipe::run_steps(&list.steps(&case.parameters), &case.mesh, lent).outcome, case)
+}
+
+fn mesh_answer(result: Result<Mesh, RefusedAt>, case: &Case) -> Answer {
     let mut line = match &result {
         Ok(mesh) => {
             let [positions, edges, faces] = mesh.counts();
             format!("0 0 0 {positions} {edges} {faces}")
         }
-        Err(refusal) => format!("{} {} 0 0 0 0", refusal.number, refusal.place),
+        Err(RefusedAt { step, refusal }) => {
+            format!("{} {} {step} 0 0 0", refusal.number, refusal.place)
+        }
     };
     let outcome = match &result {
         Ok(_) => Outcome::Done,
-        Err(refusal) => Outcome::Refused(*refusal),
+        Err(refused) => Outcome::Refused(refused.refusal),
     };
     let written = result.unwrap_or_default();
     let room = case.room;

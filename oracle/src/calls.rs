@@ -170,3 +170,15 @@ fn full_of_spares(random: &mut Random) -> Mesh {
     let mesh = random.pick(&[shapes::tetrahedron(), shapes::dense(7)]);
     shapes::with_spares(&mesh, LIMIT - mesh.position_count())
 }
+
+/// What a list may be given.
+pub fn list_parameters(random: &mut Random) -> Parameters {
+    Parameters {
+        ratio: random.pick(&[None, Some(0.25), Some(2.0)]),
+        height: random.pick(&[None, Some(0.5), Some(-0.25)]),
+        arities: random.pick(&[None, None, Some(vec![]), Some(vec![4]), Some(vec![3, 5])]),
+        faces: None,
+        regular: random.once_in(3),
+        longer: false,
+    }
+}

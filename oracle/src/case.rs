@@ -1,10 +1,13 @@
 //! One case of the program `replay`, and its words (docs/REPLAY.md).
 use crate::mesh::Mesh;
 use crate::operator::{Operator, Parameters, OPERATORS};
+use crate::recipe::{List, LISTS};
 
 #[derive(Clone, Copy, Debug, PartialEq, Eq)]
 pub enum Function {
     Operator(Operator),
+    /// Not a code of `replay` yet.
+    List(List),
     Root,
     Centroid,
     Normal,
@@ -24,10 +27,22 @@ const HELPERS: [(u32, Function, &str); 7] = [
     (26, Function::Edges, "edge list"),
 ];
 
+/// The code of the first list; the others follow in the order of `LISTS`.
+const FIRST_LIST: u32 = 31;
+
+fn list_codes() -> impl Iterator<Item = (u32, List)> {
+    (FIRST_LIST..).zip(LISTS)
+}
+
+fn list_code(list: List) -> u32 {
+    list_codes().find(|coded| coded.1 == list).expect("every list is listed").0
+}
+
 impl Function {
     pub fn code(self) -> u32 {
         match self {
             Function::Operator(operator) => operator.code(),
+            Function::List(list) => list_code(list),
             helper => helper.listed().0,
         }
     }
@@ -35,6 +50,7 @@ impl Function {
     pub fn name(self) -> String {
         match self {
             Function::Operator(operator) => operator.name(),
+            Function::List(list) => format!("{list:?}").to_lowercase(),
             helper => helper.listed().2.to_string(),
         }
     }
@@ -43,12 +59,20 @@ impl Function {
         HELPERS.iter().find(|listed| listed.1 == self).expect("every helper is listed")
     }
 
+    /// The function of a code of `replay`, or the list of a code past those.
+    pub fn or_list(code: u32) -> Option<Function> {
+        let list =
+            || list_codes().find(|coded| coded.0 == code).map(|coded| Function::List(coded.1));
+        Function::from_code(code).or_else(list)
+    }
+
+    /// The function of a code of `replay`.
     pub fn from_code(code: u32) -> Option<Function> {
         let helper = HELPERS.iter().find(|listed| listed.0 == code).map(|listed| listed.1);
         helper.or_else(|| Operator::from_code(code).map(Function::Operator))
     }
 
-    /// The codes of all functions, ascending.
+    /// The codes that `replay` has, ascending.
     pub fn codes() -> Vec<u32> {
         let operators = OPERATORS.iter().map(|operator| operator.code());
         operators.chain(HELPERS.iter().map(|listed| listed.0)).collect()

@@ -80,7 +80,7 @@ pub fn run_steps(steps: &[Step], mesh: &Mesh, lent: Lent) -> Ran {
 }
 
 /// The lists of operators that document 01 names.
-#[derive(Clone, Copy, Debug, PartialEq)]
+#[derive(Clone, Copy, Debug, PartialEq, Eq)]
 pub enum List {
     Bevel,
     Expand,

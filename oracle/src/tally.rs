@@ -86,14 +86,16 @@ fn result_coordinates(case: &Case) -> usize {
         Function::Operator(operator) => {
             table::result_sizes(operator, &case.parameters, &case.mesh).room().coordinates
         }
-        _ => unreachable!("only operators have results"),
+        // The size of a step's result isn't known here: no place of it counts as the last.
+        Function::List(_) => usize::MAX,
+        _ => unreachable!("only operators and lists have results"),
     }
 }
 
 impl fmt::Display for Tally {
     fn fmt(&self, to: &mut fmt::Formatter) -> fmt::Result {
         for (code, kinds) in &self.0 {
-            let name = Function::from_code(*code).expect("counted").name();
+            let name = Function::or_list(*code).expect("counted").name();
             let counts = kinds.iter().map(|((_, kind), count)| format!("{} {count}", kind.text()));
             writeln!(to, "{code} {name}: {}", counts.collect::<Vec<_>>().join(", "))?;
         }
