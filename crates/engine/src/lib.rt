@@ -79,7 +79,7 @@ fn cramped_at(wo: usize, nc: usize, nx: usize, lo: usize, lc: usize, lx: usize) 
 }
 
 // Tests 12 and 13, of a result of so many faces, corners and coordinates, in an output with room for so many.
-fn check_room(nf: usize, nc: usize, nx: usize, lo: usize, lc: usize, lx: usize) -> mesh::Verdict
+pub fn check_room(nf: usize, nc: usize, nx: usize, lo: usize, lc: usize, lx: usize) -> mesh::Verdict
     ensures { λ r. ⌜ r ≡ verdict (roomTests nf nc nx lo lc lx) ⌝ }
 {
     let large = mesh::limit_at(nf, nc, nx);
@@ -100,7 +100,7 @@ fn check_room(nf: usize, nc: usize, nx: usize, lo: usize, lc: usize, lx: usize) 
 }
 
 // The answer of a verdict that refuses.
-fn refusal(v: mesh::Verdict) -> Answer
+pub fn refusal(v: mesh::Verdict) -> Answer
     ensures { λ r. ⌜ r ≡ refusalOf v ⌝ }
 {
     match v {
@@ -118,7 +118,7 @@ fn refusal(v: mesh::Verdict) -> Answer
 }
 
 // The answer of a call whose result has so many faces, corners and coordinates.
-fn done(nf: usize, nc: usize, nx: usize) -> Answer
+pub fn done(nf: usize, nc: usize, nx: usize) -> Answer
     requires { ⌜ (nf ≤ 60000) × ((nc ≤ 60000) × (nx / 3 ≤ 60000)) ⌝ }
     ensures { λ r. ⌜ r ≡ Done (record { v = nx / 3; e = nc / 2; f = nf }) ⌝ }
 {

@@ -12,7 +12,8 @@ use Rattle.mesh.specs.Mesh.{faceOf, next, prev, window, mate, turn, around}
 use Rattle.mesh.specs.Edges.{up, rank}
 use Rattle.mesh.specs.EdgeList.{edgeList}
 use Rattle.rule.specs.Rule.{vertexAt, made, inner, outer}
-use Rattle.operators.specs.Operators.{amboFaces, dualFaces, chamferFaces, gyroFaces, propellorFaces, whirlFaces, quintoFaces}
+use Rattle.operators.specs.Operators.{amboFaces, dualFaces}
+use Rattle.closed.specs.Faces.{chamferFaces, gyroFaces, propellorFaces, whirlFaces, quintoFaces}
 
 -- T: its offsets, its corners, its positions
 abbrev pub tetraOffsets : List ℕ

@@ -20,7 +20,7 @@ use Rattle.rule.specs.declared.Move.the-variants.{Here, Prev}
 use Rattle.engine.specs.declared.Plan.{Plan}
 use Rattle.engine.specs.declared.Asks.{Asks}
 use Rattle.engine.specs.declared.Asks.the-variants.{Open, Closed, Round}
-use Rattle.plans.specs.Rules.{gyroRule, propellorRule, whirlRule, quintoRule, chamferRule, kisRule}
+use Rattle.closed.specs.Rules.{gyroRule, propellorRule, whirlRule, quintoRule, chamferRule, kisRule}
 
 -- ---- sections of faces
 

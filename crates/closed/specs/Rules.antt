@@ -1,4 +1,4 @@
--- The rules: what stands at each place of a new face, seen from a corner of the old mesh. Definitions only.
+-- The rules of the six operators that keep a mesh closed: what stands at each place of a new face, seen from a corner of the old mesh. Definitions only.
 use mathlib.Core.List.{List, [], _∷_}
 use Rattle.rule.specs.Rule.{old, dir, edge, cor, face, apex}
 use Rattle.rule.specs.declared.Slot.{Slot}
