@@ -1,3 +1,15 @@
 pub mod Rules
 pub mod Faces
 pub mod Keeps
+pub mod Lists
+pub mod Layout
+pub mod Net
+pub mod Rule
+pub mod Parts
+pub mod Gyro
+pub mod Uniform
+pub mod Propellor
+pub mod Whirl
+pub mod Quinto
+pub mod Chamfer
+pub mod Kis

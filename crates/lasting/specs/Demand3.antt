@@ -3,7 +3,7 @@ use mathlib.Core.Path.{_≡_}
 use mathlib.Core.Bool.{Bool, true, false, cond, _||_}
 use mathlib.Core.List.{List, [], _∷_}
 use Prim.Native.Nat.{ℕ, _+_, _*_, _/_}
-use lib.ListN.{length}
+use lib.ListN.{length, take}
 use lib.Dec.{eqb}
 use lib.Ieee.{Float}
 use Rattle.slices.specs.Lists.{each}
@@ -13,6 +13,9 @@ use Rattle.mesh.specs.declared.Verdict.the-variants.{Good}
 use Rattle.picks.specs.Picks.{picked}
 use Rattle.rule.specs.Flat.{flat, offsetsOf}
 use Rattle.engine.specs.Result.{Outcome, refused, result}
+use Rattle.engine.specs.declared.Counts.{Counts}
+use Rattle.engine.specs.declared.Answer.{Answer}
+use Rattle.engine.specs.declared.Answer.the-variants.{Done, Refused}
 use Rattle.steps.specs.Steps.{Mesh, Room, Masks, mesh, stepOn}
 use Rattle.steps.specs.declared.Step.{Step}
 use Rattle.steps.specs.declared.Step.the-variants.{Ambo, Chamfer, Dual, Gyro, Kis, Propellor, Quinto, Reflect, Reverse, Whirl, Triangulate}
@@ -109,3 +112,29 @@ Lasting (t ∷ ts) w = Lasts (t .masks) (t .step) w (turnOn t w) × After (turnO
 -- what demand 3 says
 abbrev pub Demand3 : Type 0
 Demand3 = (ts : List Turn) (w : Mesh) → allSteady ts ≡ true → Passes w → Lasting ts w
+
+-- ---- the mesh v that is there when every step is done
+abbrev pub Into : Outcome → (Mesh → Type 0) → Type 0
+Into (refused n p) P = ⊥
+Into (result fs xs) P = P (mesh (offsetsOf fs) (flat fs) xs)
+
+unfoldable pub Reached : List Turn → Mesh → Mesh → Type 0
+Reached [] w v = w ≡ v
+Reached (t ∷ ts) w v = Into (turnOn t w) (λ u. Reached ts u v)
+
+-- ---- the same in what a function answers
+
+-- the mesh with these counts at the front of lent slices
+abbrev pub front : Counts → List ℕ → List ℕ → List Float → Mesh
+front c o k x = mesh (take (c .f + 1) o) (take (2 * c .e) k) (take (3 * c .v) x)
+
+-- a step that was done on the mesh w: V, E and F, and the mesh that the lent slices then hold
+pub record Stays (m : Masks) (s : Step) (w : Mesh) (c : Counts) (o k : List ℕ) (x : List Float) : Type 0 where
+  pub edges : c .e ≡ edgesAfter m s w
+  pub same : c .v + c .f + edgesIn w ≡ positionsIn w + facesIn w + c .e
+  pub passes : Passes (front c o k x)
+
+-- it was done, or there is an excuse; outside a list the step is 0
+abbrev pub Answers : Masks → Step → Mesh → Answer → List ℕ → List ℕ → List Float → Type 0
+Answers m s w (Done c) o k x = Stays m s w c o k x
+Answers m s w (Refused n p i) o k x = (excused n ≡ true) × (i ≡ 0)
