@@ -1,29 +1,27 @@
 -- Chamfer keeps a mesh closed. Assumes nothing.
 use mathlib.Core.Path.{_≡_, refl, sym, ap, ap₂, _∙_, subst}
-use mathlib.Core.Logic.{_⊎_, inl, inr, _≢_, ⊎-elim}
+use mathlib.Core.Logic.{_⊎_, inl, inr, ⊎-elim}
 use mathlib.Core.Bool.{Bool, true, false, cond, not}
 use mathlib.Core.List.{List, [], _∷_, _++_, map, List·Memᴰ as Mem, List·Memᴰ·head as here, List·Memᴰ·tail as there, List·Memᴰ·not-nil as not-nil, List·Memᴰ·append-cases as append-cases, List·Memᴰ·eq-of-singleton as of-one, Memᴰ·append-left as append-left, Memᴰ·append-right as append-right}
-use Prim.Native.Nat.{ℕ, _+_, _*_, _≤_, _<_}
+use Prim.Native.Nat.{ℕ, _+_, _*_, _<_}
 use native.Mathlib.Omega.{arith}
 use lib.ListN.{length, getD}
 use lib.Ieee.{Float}
 use Rattle.slices.specs.Lists.{each, length-where}
 use Rattle.mesh.specs.Mesh.{faces, next, prev, mate}
-use Rattle.mesh.specs.Shape.{In, in-lt}
 use Rattle.mesh.specs.Edges.{up, edges}
 use Rattle.mesh.specs.Ranks.{rep, rep-mate}
 use Rattle.rule.specs.Rule.{vertexAt, made, cor}
-use Rattle.rule.specs.Flat.{flat, offsetsOf}
 use Rattle.rule.specs.Named.{from, positions, perUp}
 use Rattle.rule.specs.declared.Move.the-variants.{Here}
 use Rattle.closed.specs.Keeps.{Shell, Keeps}
 use Rattle.closed.specs.Rules.{chamferRule}
 use Rattle.closed.specs.Faces.{chamferFaces}
-use Rattle.closed.specs.Lists.{Nodup, nd0, nd, nodup-nth, nodup-of-map, nodup-append, nodup-each, nodup-ones, mem-each, of-each, joined, joined-each, joined-one, each-cong, map-each, map-append, out, also, nothing}
+use Rattle.closed.specs.Lists.{Nodup, nd0, nd, nodup-nth, nodup-append, nodup-each, mem-each, of-each, joined, joined-each, joined-one, each-cong, map-each, map-append, out, also, nothing}
 use Rattle.closed.specs.Net.{nx<, pv<, mt<, nx-pv, pv-nx, mt-en, mt-mt, nx-inj, nx≢, nx≢pv, st≢, mt≢, mt≢nx, up-mt, twice}
-use Rattle.closed.specs.Layout.{Round, Held, drawn}
-use Rattle.closed.specs.Rule.{Vtx, old, mid, top, Fits, Table, At, Rows, row, more, Same, Told, apart-by, num, numbered, shell-of, old-inj, mid-inj, old≢mid, mid≢old}
-use Rattle.closed.specs.Parts.{Chain, written, ring, rings, rings-held, ring-round, held-as, held-append, each-all, append-all, draw-rings, Sized, sized-append, sized-face, made-long, flat-joined}
+use Rattle.closed.specs.Layout.{Round, Held, Laid, drawn}
+use Rattle.closed.specs.Rule.{Vtx, old, mid, top, Fits, Table, At, Rows, row, more, Same, apart-by, num, numbered, shell-of, old-inj, mid-inj, old≢mid, mid≢old}
+use Rattle.closed.specs.Parts.{Chain, written, rings, rings-held, rings-round, held-as, held-append, each-all, append-all, draw-rings, Sized, sized-append, sized-face, made-long, flat-joined}
 
 -- the corners of the new faces by the kinds of their edges' ends, each with its vertex, the next corner, and the corner across
 pub data G : Type 0 where
@@ -253,10 +251,10 @@ module _ (o k : List ℕ) (v : ℕ) (S : Shell o k v) where
   abbrev drawing : List (List ℕ)
   drawing = drawn (numbered v (length k) (vx k)) (keyFaces o k)
 
-  shell : Shell (offsetsOf drawing) (flat drawing) (v + length k + 0)
+  shell : Laid drawing (v + length k + 0)
   unfolding vr nr
   shell = shell-of (row mid-mid, 0) (keyFaces o k) table held (append-all Fine (rings o (row mid-mid)) (hexagons o k)
-      (each-all Fine (λ f. ring o (row mid-mid) f ∷ []) (faces o) (λ f h l j. subst Fine (sym (of-one j)) (ring-round o (length k) (S .surface .shaped) (row mid-mid) (vx k) (nk o k) (S .surface .full) f h (λ c i. refl) (λ c d i l e. mid-inj e))))
+      (rings-round o (length k) (S .surface .shaped) (row mid-mid) (vx k) (nk o k) (S .surface .full) (λ c. refl) (λ c d h l e. mid-inj e))
       (each-all Fine (λ c. cond (up o k c) (hexagon o k c ∷ []) []) (length k) (λ c h l j. subst Fine (sym (of-one (cond-yes (up o k c) (hexagon o k c ∷ []) j .1))) (round c h))))
     where
       Fine : List (Row × ℕ) → Type 0

@@ -1,7 +1,7 @@
 -- Kis keeps a mesh closed, whichever faces are picked. Assumes nothing.
-use mathlib.Core.Path.{_≡_, refl, sym, ap, ap₂, _∙_, subst}
+use mathlib.Core.Path.{_≡_, refl, sym, ap, _∙_, subst}
 use mathlib.Core.Bool.{Bool, true, false, cond, true≢false}
-use mathlib.Core.List.{List, [], _∷_, _++_, map, List·Memᴰ as Mem, List·Memᴰ·head as here, List·Memᴰ·tail as there, List·Memᴰ·not-nil as not-nil, List·Memᴰ·eq-of-singleton as of-one}
+use mathlib.Core.List.{List, [], _∷_, map, List·Memᴰ as Mem, List·Memᴰ·head as here, List·Memᴰ·tail as there, List·Memᴰ·not-nil as not-nil, List·Memᴰ·eq-of-singleton as of-one}
 use Prim.Native.Nat.{ℕ, zero, suc, _+_, _*_, _≤_, _<_}
 use native.Mathlib.Nat.{le-refl}
 use native.Mathlib.Omega.{arith}
@@ -9,25 +9,25 @@ use lib.ListN.{length, getD, length-append}
 use lib.Ieee.{Float}
 use Rattle.slices.specs.First.{count}
 use Rattle.slices.specs.Lists.{each}
-use Rattle.mesh.specs.Mesh.{faces, start, end, arity, run, faceOf, next, prev, mate}
+use Rattle.mesh.specs.Mesh.{faces, start, arity, run, faceOf, next, prev, mate}
 use Rattle.mesh.specs.Shape.{In, in-lt, faceOf-at, length-run}
 use Rattle.mesh.specs.Count.{count-lt, count-inj}
 use Rattle.mesh.specs.Edges.{edges}
 use Rattle.picks.specs.Picks.{picked}
 use Rattle.picks.specs.declared.Mask.{Mask}
 use Rattle.rule.specs.Rule.{vertexAt, made, inner, splits, apexed, old as oldAt}
-use Rattle.rule.specs.Flat.{flat, offsetsOf, flat-append, flat-one, flat-each}
+use Rattle.rule.specs.Flat.{flat, flat-append, flat-one, flat-each}
 use Rattle.rule.specs.Faces.{length-inner}
 use Rattle.rule.specs.Named.{from, positions}
 use Rattle.rule.specs.declared.Move.the-variants.{Here}
 use Rattle.closed.specs.Keeps.{Shell, Keeps}
 use Rattle.closed.specs.Rules.{kisRule}
 use Rattle.closed.specs.Faces.{kisFaces}
-use Rattle.closed.specs.Lists.{Nodup, nd0, nd, nodup-nth, joined, joined-each, joined-one, each-cong, map-each, of-each, out, also, nothing, length-ones}
+use Rattle.closed.specs.Lists.{Nodup, nd0, nd, nodup-nth, joined, joined-each, joined-one, each-cong, map-each, out, also, nothing, length-ones}
 use Rattle.closed.specs.Net.{nx<, pv<, mt<, fc<, nx-pv, fc-nx, fc-pv, mt-st, mt-en, solo, nx-inj, st≢, twice}
-use Rattle.closed.specs.Layout.{Round, Held, drawn}
-use Rattle.closed.specs.Rule.{Vtx, old, mid, top, Fits, Table, num, numbered, shell-of, old-inj, mid-inj, old≢mid, mid≢old}
-use Rattle.closed.specs.Parts.{Chain, written, column, seats, seats-held, ring, ring-round, held-as, each-all, draw-ring, made-long}
+use Rattle.closed.specs.Layout.{Round, Held, Laid, drawn}
+use Rattle.closed.specs.Rule.{Vtx, old, mid, top, Fits, Table, num, numbered, shell-of, apart-rows, old-inj, mid-inj, old≢mid}
+use Rattle.closed.specs.Parts.{Chain, written, column, seats-held, ring, ring-round, held-as, each-all, ones-all, draw-ring, made-long}
 
 -- the rim of a face, the corner before the apex, the apex; the last two only where the face is picked
 pub data Row : Type 0 where
@@ -141,22 +141,13 @@ module _ (o k : List ℕ) (pick : ℕ → Bool) where
     same-face : (c d : ℕ) → pick (faceOf o c) ≡ true → pick (faceOf o d) ≡ true → mid (count pick (faceOf o c)) ≡ mid (count pick (faceOf o d)) → faceOf o c ≡ faceOf o d
     same-face c d p q e = count-inj pick (faceOf o c) (faceOf o d) p q (mid-inj e)
 
-    abbrev Same : Row × ℕ → Row × ℕ → Type 0
-    Same p q = (vx p ≡ vx q) × (vx (nk p) ≡ vx (nk q))
-
-    same : (r : Row) (c d : ℕ) → Ok (r, c) → Ok (r, d) → Same (r, c) (r, d) → c ≡ d
+    same : (r : Row) (c d : ℕ) → Ok (r, c) → Ok (r, d) → vr r c ≡ vr r d → vx (nr r c) ≡ vx (nr r d) → c ≡ d
     unfolding vr nr
-    same rim c d h l p = S .surface .closed .once c d (h .1) (l .1) (old-inj (p .0)) (old-inj (sym (rim-next c) ∙ p .1 ∙ rim-next d))
-    same rise c d h l p =
-        let e = same-face c d (h .0) (l .0) (p .1) in
-        nx-inj S (h .1) (l .1) (solo S (next o c) (next o d) (nx< S c (h .1)) (nx< S d (l .1)) (fc-nx S c (h .1) ∙ e ∙ sym (fc-nx S d (l .1))) (old-inj (p .0)))
-    same fall c d h l p = solo S c d (h .1) (l .1) (same-face c d (h .0) (l .0) (p .0)) (old-inj (p .1))
-
-    apart : (r s : Row) (c d : ℕ) → Ok (r, c) → Ok (s, d) → Same (r, c) (s, d) → _≡_ {A = Row × ℕ} (r, c) (s, d)
-    apart r s c d h l p =
-        let e : r ≡ s = sym (which-row r c) ∙ ap₂ which (p .0) (p .1) ∙ which-row s d in
-        let q : c ≡ d = same r c d h (subst (λ z. Ok (z, d)) (sym e) l) (subst (λ z. Same (r, c) (z, d)) (sym e) p) in
-        λ z. (e z, q z)
+    same rim c d h l p q = S .surface .closed .once c d (h .1) (l .1) (old-inj p) (old-inj (sym (rim-next c) ∙ q ∙ rim-next d))
+    same rise c d h l p q =
+        let e = same-face c d (h .0) (l .0) q in
+        nx-inj S (h .1) (l .1) (solo S (next o c) (next o d) (nx< S c (h .1)) (nx< S d (l .1)) (fc-nx S c (h .1) ∙ e ∙ sym (fc-nx S d (l .1))) (old-inj p))
+    same fall c d h l p q = solo S c d (h .1) (l .1) (same-face c d (h .0) (l .0) p) (old-inj q)
 
     paired : (r : Row) (c : ℕ) → Ok (r, c) → Ok (mr r c) × (vx (mr r c) ≡ vx (nr r c)) × (vx (nk (mr r c)) ≡ vr r c)
     unfolding vr nr mr
@@ -167,7 +158,7 @@ module _ (o k : List ℕ) (pick : ℕ → Bool) where
     table : Table v (count pick (faces o)) 0 Ok vx nk mk
     table = record {
       fits = λ q. fits (q .0) (q .1);
-      apart = λ p q h l a b. apart (p .0) (q .0) (p .1) (q .1) h l (a, b);
+      apart = apart-rows Ok vx nk which which-row same;
       paired = λ q. paired (q .0) (q .1);
     }
 
@@ -207,13 +198,13 @@ module _ (o k : List ℕ) (pick : ℕ → Bool) where
         (λ c d i j q. solo S c d (in-lt o (length k) (S .surface .shaped) f c i) (in-lt o (length k) (S .surface .shaped) f d j) (sym (faceOf-at o (length k) (S .surface .shaped) f c i) ∙ faceOf-at o (length k) (S .surface .shaped) f d j) (old-inj q))
 
     panes-round : (b : Bool) (f : ℕ) → pick f ≡ b → f < faces o → (l : List (Row × ℕ)) → Mem l (panes b f) → Fine l
-    panes-round true f e h = each-all Fine (λ j. triangle (start o f + j) ∷ []) (arity o f) (λ j i l m. subst Fine (sym (of-one m)) (tri-round f (start o f + j) e (in-at f j h i)))
+    panes-round true f e h = ones-all Fine (λ j. triangle (start o f + j)) (arity o f) (λ j i. tri-round f (start o f + j) e (in-at f j h i))
     panes-round false f e h = λ l m. subst Fine (sym (of-one m)) (rim-round f e h)
 
     abbrev drawing : List (List ℕ)
     drawing = drawn (numbered v (count pick (faces o)) vx) keyFaces
 
-    shell : Shell (offsetsOf drawing) (flat drawing) (v + count pick (faces o) + 0)
+    shell : Laid drawing (v + count pick (faces o) + 0)
     unfolding Fine
     shell = shell-of (rim, 0) keyFaces table held (each-all Fine (λ f. panes (pick f) f) (faces o) (λ f h. panes-round (pick f) f refl h))
 

@@ -1,11 +1,11 @@
 -- Faces drawn with keys, laid flat: where each key's next and mate are known, the numbers of the keys make a closed mesh. Assumes nothing.
-use mathlib.Core.Path.{_≡_, refl, sym, ap, ap₂, _∙_, subst}
+use mathlib.Core.Path.{_≡_, refl, sym, ap, _∙_, subst}
 use mathlib.Core.Logic.{⊎-elim}
 use mathlib.Core.Bool.{false}
 use mathlib.Core.List.{List, [], _∷_, _++_, map, append-nil, List·Memᴰ as Mem}
 use Prim.Native.Nat.{ℕ, zero, suc, _+_, _-_, _≤_, _<_, zero-le}
 use native.Mathlib.Omega.{arith}
-use native.Mathlib.Nat.{add-zero, zero-add, add-assoc, le-refl, not-suc-le-zero, le-of-suc-le-suc, lt-of-le-of-lt, lt-irrefl}
+use native.Mathlib.Nat.{add-zero, zero-add, le-refl, not-suc-le-zero, le-of-suc-le-suc, lt-of-le-of-lt, lt-irrefl}
 use native.Mathlib.Numerals.{add-one}
 use lib.ListN.{length, getD, take, drop, length-append, List·getD-append}
 use lib.Seq.{getD-append-add, take-length, getD-take, getD-drop}
@@ -15,10 +15,10 @@ use Rattle.mesh.specs.Mesh.{faces, start, end, arity, run, faceOf, next, nextIn
 use Rattle.mesh.specs.Tests.{seen, repeats}
 use Rattle.mesh.specs.Shape.{Shaped, In, next-at, end-le, length-run}
 use Rattle.mesh.specs.Corners.{in-face, next-lt}
-use Rattle.mesh.specs.Closed.{Closed, from, to, is-window, window-is}
+use Rattle.mesh.specs.Closed.{from, to, is-window, window-is}
 use Rattle.rule.specs.Flat.{flat, ends, offsetsOf, length-ends}
 use Rattle.closed.specs.Keeps.{Shell}
-use Rattle.closed.specs.Lists.{Nodup, joined, getD-mem, mem-getD, nodup-getD, length-map, map-append, getD-map, mem-joined}
+use Rattle.closed.specs.Lists.{Nodup, joined, getD-mem, mem-getD, nodup-getD, length-map, map-append, getD-map}
 
 -- ---- what is to be known of a drawing
 
@@ -44,6 +44,10 @@ pub record Matched {K : Type 0} (v : ℕ) (Ok : K → Type 0) (num : K → ℕ) 
 -- the faces by the numbers of their keys
 abbrev pub drawn : {K : Type 0} → (K → ℕ) → List (List K) → List (List ℕ)
 drawn num fs = map (map num) fs
+
+-- a list of faces, laid flat, is a closed mesh on v positions
+abbrev pub Laid : List (List ℕ) → ℕ → Type 0
+Laid fs v = Shell (offsetsOf fs) (flat fs) v
 
 -- ---- where a key lies
 
@@ -217,7 +221,7 @@ module _ {K : Type 0} (d : K) (num : K → ℕ) (fs : List (List K)) where
           let m : mate offs cors c < length cors = lt-of-le-of-lt (at-or-before (windowIs offs cors (turnedOf (window offs cors c))) (length cors) b (window-is offs cors (to offs cors c) (from offs cors c) b p q)) l in
           (m, is-window offs cors (to offs cors c) (from offs cors c) (mate offs cors c) (first-is (windowIs offs cors (turnedOf (window offs cors c))) (length cors) .holds m))
 
-      pub shell-laid : Shell (offsetsOf (drawn num fs)) (flat (drawn num fs)) v
+      pub shell-laid : Laid (drawn num fs) v
       shell-laid = record {
         surface = record {
           shaped = shaped-laid;

@@ -15,12 +15,12 @@ use Rattle.rule.specs.declared.Move.the-variants.{Here}
 use Rattle.closed.specs.Keeps.{Shell, Keeps}
 use Rattle.closed.specs.Rules.{propellorRule}
 use Rattle.closed.specs.Faces.{propellorFaces}
-use Rattle.closed.specs.Lists.{Nodup, nd0, nd, nodup-nth, out}
+use Rattle.closed.specs.Lists.{nd0, nd, nodup-nth, out}
 use Rattle.closed.specs.Net.{dirOf, dir<, nx<, pv<, mt<, nx-pv, pv-nx, mt-st, mt-en, mt-mt, pv-inj, mt-inj, mt≢, mt≢nx, mt≢pv, pv≢, nx≢pv, twice}
 use Rattle.closed.specs.Layout.{Round, drawn}
-use Rattle.closed.specs.Rule.{Vtx, old, mid, top, Fits, Rows, row, more, Same, Told, apart-by, num, numbered, dirs-inj, dirs≢, old≢top}
+use Rattle.closed.specs.Rule.{Vtx, old, mid, top, slotAt, Fits, Rows, row, more, Same, apart-by, num, numbered, dirs-inj, dirs≢, old≢top}
 use Rattle.closed.specs.Parts.{Chain, written, column, columns, rings, Sized, sized-append, sized-corner, sized-face}
-use Rattle.closed.specs.Uniform.{Uniform, shell-first, draw-first}
+use Rattle.closed.specs.Uniform.{Uniform, onward, shell-first, draw-first}
 
 -- the corners of the new faces by the kinds of their edges' ends, each with its vertex, the next corner, and the corner across
 pub data G : Type 0 where
@@ -35,19 +35,18 @@ Row = Rows G X
 abbrev pub rows : List Row
 rows = row old-top ∷ more turn ∷ more back ∷ row top-old ∷ []
 
+abbrev pub nth : Row → ℕ
+nth (row top-top) = 0
+nth (row old-top) = 1
+nth (more turn) = 2
+nth (more back) = 3
+nth (row top-old) = 4
+
 unfoldable pub vr : List ℕ → List ℕ → Row → ℕ → Vtx
-vr o k (row top-top) c = top (dirOf o k c)
-vr o k (row old-top) c = old (getD k c 0)
-vr o k (more turn) c = top (dirOf o k (mate o k c))
-vr o k (more back) c = top (dirOf o k c)
-vr o k (row top-old) c = top (dirOf o k (prev o c))
+vr o k r c = slotAt mid o k (getD (dir Here ∷ propellorRule) (nth r) (dir Here)) c
 
 unfoldable pub nr : List ℕ → Row → ℕ → Row × ℕ
-nr o (row top-top) c = (row top-top, next o c)
-nr o (row old-top) c = (more turn, c)
-nr o (more turn) c = (more back, c)
-nr o (more back) c = (row top-old, c)
-nr o (row top-old) c = (row old-top, c)
+nr o r c = onward o (row old-top) rows nth r c
 
 unfoldable pub mr : List ℕ → List ℕ → Row → ℕ → Row × ℕ
 mr o k (row top-top) c = (more back, next o c)
@@ -73,24 +72,16 @@ which (top i) (old j) = top-old
 which (top i) (mid j) = top-old
 which (top i) (top j) = top-top
 
-nth : Row → ℕ
-nth (row top-top) = 0
-nth (row old-top) = 1
-nth (more turn) = 2
-nth (more back) = 3
-nth (row top-old) = 4
-
 module _ (o k : List ℕ) (v : ℕ) (S : Shell o k v) where
-  round : (c : ℕ) → c < length k → Round (row top-top, 0) (vx o k) (nk o) (column rows c)
-  unfolding vr nr Chain
-  round c h =
-      let m = mt< S c h in
+  paired : (r : Row) (c : ℕ) → c < length k → (mr o k r c .1 < length k) × (vx o k (mr o k r c) ≡ vx o k (nr o r c)) × (vx o k (nk o (mr o k r c)) ≡ vr o k r c)
+  unfolding vr nr mr
+  paired (row top-top) c h = (nx< S c h, refl, ap (λ z. top (dirOf o k z)) (pv-nx S c h))
+  paired (row old-top) c h = let m = mt< S c h in (nx< S (mate o k c) m, ap (λ z. top (dirOf o k z)) (pv-nx S (mate o k c) m), ap old (mt-en S c h))
+  paired (more turn) c h = (mt< S c h, ap (λ z. top (dirOf o k z)) (mt-mt S c h), refl)
+  paired (more back) c h = (pv< S c h, refl, ap (λ z. top (dirOf o k z)) (nx-pv S c h))
+  paired (row top-old) c h =
       let l = pv< S c h in
-      written (row top-top, 0) (vx o k) (nk o) _ _ (omega arith) (refl, (refl, (refl, refl)))
-      (nd (out old≢top (out old≢top (out old≢top not-nil)))
-      (nd (out (dirs≢ S m h (mt≢ S c h)) (out (dirs≢ S m l (mt≢pv S c h)) not-nil))
-      (nd (out (dirs≢ S h l (λ e. pv≢ S c h (sym e))) not-nil)
-      (nd not-nil nd0))))
+      (mt< S (prev o c) l, ap old (mt-st S (prev o c) l ∙ ap (λ z. getD k z 0) (nx-pv S c h)), ap (λ z. top (dirOf o k z)) (mt-mt S (prev o c) l))
 
   fits : (r : Row) (c : ℕ) → c < length k → Fits v 0 (2 * edges o k) (vr o k r c)
   unfolding vr
@@ -129,15 +120,16 @@ module _ (o k : List ℕ) (v : ℕ) (S : Shell o k v) where
   clash turn c d h l p = mt≢nx S c h (ap (mate o k) (dirs-inj S h (mt< S d l) (p .0)) ∙ mt-mt S d l ∙ sym (dirs-inj S (nx< S c h) l (p .1)))
   clash back c d h l p = nx≢pv S d l (ap (next o) (sym (dirs-inj S h l (p .0))) ∙ dirs-inj S (nx< S c h) (pv< S d l) (p .1))
 
-  paired : (r : Row) (c : ℕ) → c < length k → (mr o k r c .1 < length k) × (vx o k (mr o k r c) ≡ vx o k (nr o r c)) × (vx o k (nk o (mr o k r c)) ≡ vr o k r c)
-  unfolding vr nr mr
-  paired (row top-top) c h = (nx< S c h, refl, ap (λ z. top (dirOf o k z)) (pv-nx S c h))
-  paired (row old-top) c h = let m = mt< S c h in (nx< S (mate o k c) m, ap (λ z. top (dirOf o k z)) (pv-nx S (mate o k c) m), ap old (mt-en S c h))
-  paired (more turn) c h = (mt< S c h, ap (λ z. top (dirOf o k z)) (mt-mt S c h), refl)
-  paired (more back) c h = (pv< S c h, refl, ap (λ z. top (dirOf o k z)) (nx-pv S c h))
-  paired (row top-old) c h =
+  round : (c : ℕ) → c < length k → Round (row top-top, 0) (vx o k) (nk o) (column rows c)
+  unfolding vr nr Chain
+  round c h =
+      let m = mt< S c h in
       let l = pv< S c h in
-      (mt< S (prev o c) l, ap old (mt-st S (prev o c) l ∙ ap (λ z. getD k z 0) (nx-pv S c h)), ap (λ z. top (dirOf o k z)) (mt-mt S (prev o c) l))
+      written (row top-top, 0) (vx o k) (nk o) _ _ (omega arith) (refl, (refl, (refl, refl)))
+      (nd (out old≢top (out old≢top (out old≢top not-nil)))
+      (nd (out (dirs≢ S m h (mt≢ S c h)) (out (dirs≢ S m l (mt≢pv S c h)) not-nil))
+      (nd (out (dirs≢ S h l (λ e. pv≢ S c h (sym e))) not-nil)
+      (nd not-nil nd0))))
 
   rows-all : (r : Row) → Mem r (row top-top ∷ rows)
   rows-all (row top-top) = here refl
@@ -147,7 +139,7 @@ module _ (o k : List ℕ) (v : ℕ) (S : Shell o k v) where
   rows-all (row top-old) = there (there (there (there (here refl))))
 
   uniform : Uniform o k v 0 (2 * edges o k) (row top-top) rows (vx o k) (nk o) (mk o k)
-  unfolding nth each vr nr
+  unfolding each vr nr
   uniform = record {
     rows-once = nodup-nth nth (row top-top ∷ rows) 5 refl;
     rows-all = rows-all;

@@ -14,12 +14,12 @@ use Rattle.rule.specs.declared.Move.the-variants.{Here}
 use Rattle.closed.specs.Keeps.{Shell, Keeps}
 use Rattle.closed.specs.Rules.{quintoRule}
 use Rattle.closed.specs.Faces.{quintoFrom, quintoFaces}
-use Rattle.closed.specs.Lists.{Nodup, nd0, nd, nodup-nth, out}
+use Rattle.closed.specs.Lists.{nd0, nd, nodup-nth, out}
 use Rattle.closed.specs.Net.{nx<, pv<, mt<, nx-pv, pv-nx, mt-st, mt-en, pv-inj, pv≢, nx≢pv, rk<, rk-mt, rk-st, rk-en, rk≢pv, twice}
 use Rattle.closed.specs.Layout.{Round, drawn}
-use Rattle.closed.specs.Rule.{Vtx, old, mid, top, Fits, Rows, row, more, Same, Told, apart-by, num, numbered, old-inj, mid-inj, top-inj, old≢mid, old≢top, mid≢top, top≢mid}
+use Rattle.closed.specs.Rule.{Vtx, old, mid, top, slotAt, Fits, Rows, row, more, Same, apart-by, num, numbered, old-inj, mid-inj, top-inj, old≢mid, old≢top, mid≢top, top≢mid}
 use Rattle.closed.specs.Parts.{Chain, written, column, columns, rings, Sized, sized-append, sized-corner, sized-face}
-use Rattle.closed.specs.Uniform.{Uniform, shell-first, draw-first}
+use Rattle.closed.specs.Uniform.{Uniform, onward, shell-first, draw-first}
 
 -- the corners of the new faces by the kinds of their edges' ends, each with its vertex, the next corner, and the corner across
 pub data G : Type 0 where
@@ -34,21 +34,19 @@ Row = Rows G X
 abbrev pub rows : List Row
 rows = row old-mid ∷ row mid-top ∷ more back ∷ row top-mid ∷ row mid-old ∷ []
 
+abbrev pub nth : Row → ℕ
+nth (row top-top) = 0
+nth (row old-mid) = 1
+nth (row mid-top) = 2
+nth (more back) = 3
+nth (row top-mid) = 4
+nth (row mid-old) = 5
+
 unfoldable pub vr : List ℕ → List ℕ → Row → ℕ → Vtx
-vr o k (row top-top) c = top c
-vr o k (row old-mid) c = old (getD k c 0)
-vr o k (row mid-top) c = mid (rank o k c)
-vr o k (more back) c = top c
-vr o k (row top-mid) c = top (prev o c)
-vr o k (row mid-old) c = mid (rank o k (prev o c))
+vr o k r c = slotAt top o k (getD (cor Here ∷ quintoRule) (nth r) (cor Here)) c
 
 unfoldable pub nr : List ℕ → Row → ℕ → Row × ℕ
-nr o (row top-top) c = (row top-top, next o c)
-nr o (row old-mid) c = (row mid-top, c)
-nr o (row mid-top) c = (more back, c)
-nr o (more back) c = (row top-mid, c)
-nr o (row top-mid) c = (row mid-old, c)
-nr o (row mid-old) c = (row old-mid, c)
+nr o r c = onward o (row old-mid) rows nth r c
 
 unfoldable pub mr : List ℕ → List ℕ → Row → ℕ → Row × ℕ
 mr o k (row top-top) c = (more back, next o c)
@@ -77,24 +75,17 @@ which (top i) (old j) = top-top
 which (top i) (mid j) = top-mid
 which (top i) (top j) = top-top
 
-nth : Row → ℕ
-nth (row top-top) = 0
-nth (row old-mid) = 1
-nth (row mid-top) = 2
-nth (more back) = 3
-nth (row top-mid) = 4
-nth (row mid-old) = 5
-
 module _ (o k : List ℕ) (v : ℕ) (S : Shell o k v) where
-  round : (c : ℕ) → c < length k → Round (row top-top, 0) (vx o k) (nk o) (column rows c)
-  unfolding vr nr Chain
-  round c h =
-      written (row top-top, 0) (vx o k) (nk o) _ _ (omega arith) (refl, (refl, (refl, (refl, refl))))
-      (nd (out old≢mid (out old≢top (out old≢top (out old≢mid not-nil))))
-      (nd (out mid≢top (out mid≢top (out (λ e. rk≢pv S c h (mid-inj e)) not-nil)))
-      (nd (out (λ e. pv≢ S c h (sym (top-inj e))) (out top≢mid not-nil))
-      (nd (out top≢mid not-nil)
-      (nd not-nil nd0)))))
+  paired : (r : Row) (c : ℕ) → c < length k → (mr o k r c .1 < length k) × (vx o k (mr o k r c) ≡ vx o k (nr o r c)) × (vx o k (nk o (mr o k r c)) ≡ vr o k r c)
+  unfolding vr nr mr
+  paired (row top-top) c h = (nx< S c h, refl, ap top (pv-nx S c h))
+  paired (row old-mid) c h = let m = mt< S c h in (nx< S (mate o k c) m, ap mid (ap (rank o k) (pv-nx S (mate o k c) m) ∙ rk-mt S c h), ap old (mt-en S c h))
+  paired (row mid-top) c h = (nx< S c h, ap top (pv-nx S c h), ap (λ z. mid (rank o k z)) (pv-nx S c h))
+  paired (more back) c h = (pv< S c h, refl, ap top (nx-pv S c h))
+  paired (row top-mid) c h = (pv< S c h, refl, refl)
+  paired (row mid-old) c h =
+      let l = pv< S c h in
+      (mt< S (prev o c) l, ap old (mt-st S (prev o c) l ∙ ap (λ z. getD k z 0) (nx-pv S c h)), ap mid (rk-mt S (prev o c) l))
 
   fits : (r : Row) (c : ℕ) → c < length k → Fits v (edges o k) (length k) (vr o k r c)
   unfolding vr
@@ -134,16 +125,15 @@ module _ (o k : List ℕ) (v : ℕ) (S : Shell o k v) where
   unfolding vr nr
   clash back c d h l p = nx≢pv S d l (ap (next o) (sym (top-inj (p .0))) ∙ top-inj (p .1))
 
-  paired : (r : Row) (c : ℕ) → c < length k → (mr o k r c .1 < length k) × (vx o k (mr o k r c) ≡ vx o k (nr o r c)) × (vx o k (nk o (mr o k r c)) ≡ vr o k r c)
-  unfolding vr nr mr
-  paired (row top-top) c h = (nx< S c h, refl, ap top (pv-nx S c h))
-  paired (row old-mid) c h = let m = mt< S c h in (nx< S (mate o k c) m, ap mid (ap (rank o k) (pv-nx S (mate o k c) m) ∙ rk-mt S c h), ap old (mt-en S c h))
-  paired (row mid-top) c h = (nx< S c h, ap top (pv-nx S c h), ap (λ z. mid (rank o k z)) (pv-nx S c h))
-  paired (more back) c h = (pv< S c h, refl, ap top (nx-pv S c h))
-  paired (row top-mid) c h = (pv< S c h, refl, refl)
-  paired (row mid-old) c h =
-      let l = pv< S c h in
-      (mt< S (prev o c) l, ap old (mt-st S (prev o c) l ∙ ap (λ z. getD k z 0) (nx-pv S c h)), ap mid (rk-mt S (prev o c) l))
+  round : (c : ℕ) → c < length k → Round (row top-top, 0) (vx o k) (nk o) (column rows c)
+  unfolding vr nr Chain
+  round c h =
+      written (row top-top, 0) (vx o k) (nk o) _ _ (omega arith) (refl, (refl, (refl, (refl, refl))))
+      (nd (out old≢mid (out old≢top (out old≢top (out old≢mid not-nil))))
+      (nd (out mid≢top (out mid≢top (out (λ e. rk≢pv S c h (mid-inj e)) not-nil)))
+      (nd (out (λ e. pv≢ S c h (sym (top-inj e))) (out top≢mid not-nil))
+      (nd (out top≢mid not-nil)
+      (nd not-nil nd0)))))
 
   rows-all : (r : Row) → Mem r (row top-top ∷ rows)
   rows-all (row top-top) = here refl
@@ -154,7 +144,7 @@ module _ (o k : List ℕ) (v : ℕ) (S : Shell o k v) where
   rows-all (row mid-old) = there (there (there (there (there (here refl)))))
 
   uniform : Uniform o k v (edges o k) (length k) (row top-top) rows (vx o k) (nk o) (mk o k)
-  unfolding nth each vr nr
+  unfolding each vr nr
   uniform = record {
     rows-once = nodup-nth nth (row top-top ∷ rows) 6 refl;
     rows-all = rows-all;

@@ -1,17 +1,20 @@
 -- A drawing with named vertices: old ones, then the middle ones, then the top ones. One theorem takes a table of keys to a closed mesh. Assumes nothing.
-use mathlib.Core.Path.{_≡_, refl, sym, ap, ap₂, _∙_, subst}
-use mathlib.Core.Logic.{_⊎_, inl, inr, _≢_, ⊎-elim}
-use mathlib.Core.List.{List, [], _∷_, _++_, map, map-map, List·Memᴰ as Mem, List·Memᴰ·head as here, List·Memᴰ·tail as there, List·Memᴰ·not-nil as not-nil, List·Memᴰ·append-cases as append-cases, List·Memᴰ·eq-of-singleton as of-one, Memᴰ·cast as cast, Memᴰ·append-left as append-left, Memᴰ·append-right as append-right, Memᴰ·map as mem-map, Memᴰ·of-map as of-map}
-use Prim.Native.Nat.{ℕ, zero, suc, _+_, _-_, _≤_, _<_}
+use mathlib.Core.Path.{_≡_, sym, ap, ap₂, _∙_, subst}
+use mathlib.Core.Logic.{_≢_}
+use mathlib.Core.List.{List, List·Memᴰ as Mem}
+use Prim.Native.Nat.{ℕ, _+_, _<_}
 use native.Mathlib.Omega.{arith}
-use native.Mathlib.Nat.{not-suc-le-zero, le-of-suc-le-suc}
 use lib.ListN.{length, getD}
-use Rattle.slices.specs.Lists.{each}
-use Rattle.rule.specs.Flat.{flat, offsetsOf}
+use Rattle.mesh.specs.Mesh.{faceOf}
+use Rattle.mesh.specs.Edges.{rank}
+use Rattle.rule.specs.Rule.{moved}
+use Rattle.rule.specs.declared.Slot.{Slot}
+use Rattle.rule.specs.declared.Kind.{Kind}
+use Rattle.rule.specs.declared.Kind.the-variants.{Old, Dir, Edge, Cor, Face, Apex}
 use Rattle.closed.specs.Keeps.{Shell}
-use Rattle.closed.specs.Lists.{Nodup, joined, nodup-append, nodup-getD, nodup-each, nodup-map, mem-each, of-each, mem-joined, joined-append, joined-each, joined-one, each-cong, length-map, getD-map, getD-mem}
+use Rattle.closed.specs.Lists.{mem-joined, getD-mem}
 use Rattle.closed.specs.Net.{dirOf, dir-inj}
-use Rattle.closed.specs.Layout.{Round, Held, Matched, drawn, shell-laid}
+use Rattle.closed.specs.Layout.{Round, Held, Matched, Laid, drawn, shell-laid}
 
 pub data Vtx : Type 0 where
   old mid top : ℕ → Vtx
@@ -83,6 +86,18 @@ top≢mid e = omega (arith, ap kind e)
 pub top≢old : {i j : ℕ} → top i ≢ old j
 top≢old e = omega (arith, ap kind e)
 
+-- the vertex that a slot names at a corner, by its kind: t says whether those of corners are middle or top ones
+abbrev pub nameOf : (ℕ → Vtx) → List ℕ → List ℕ → Kind → ℕ → Vtx
+nameOf t o k Old c = old (getD k c 0)
+nameOf t o k Dir c = top (dirOf o k c)
+nameOf t o k Edge c = mid (rank o k c)
+nameOf t o k Cor c = t c
+nameOf t o k Face c = mid (faceOf o c)
+nameOf t o k Apex c = mid (faceOf o c)
+
+abbrev pub slotAt : (ℕ → Vtx) → List ℕ → List ℕ → Slot → ℕ → Vtx
+slotAt t o k s c = nameOf t o k (s .kind) (moved o k (s .at) c)
+
 -- the top ones of directed edges tell the corners
 module _ {o k : List ℕ} {v : ℕ} (S : Shell o k v) {c d : ℕ} (h : c < length k) (l : d < length k) where
   pub dirs-inj : top (dirOf o k c) ≡ top (dirOf o k d) → c ≡ d
@@ -101,7 +116,7 @@ pub record Table {K : Type 0} (v m t : ℕ) (Ok : K → Type 0) (vx : K → Vtx)
 abbrev pub numbered : {K : Type 0} → ℕ → ℕ → (K → Vtx) → K → ℕ
 numbered v m vx k = num v m (vx k)
 
--- THE THEOREM: faces that hold the keys of a table, each once, lie flat as a closed mesh
+-- the one theorem: faces that hold the keys of a table, each once, lie flat as a closed mesh
 module _ {K : Type 0} {v m t : ℕ} {Ok : K → Type 0} {vx : K → Vtx} {nk mk : K → K} (d : K) (fs : List (List K)) where
   matched : Table v m t Ok vx nk mk → Matched (v + m + t) Ok (numbered v m vx) nk mk
   matched T = record {
@@ -118,10 +133,21 @@ module _ {K : Type 0} {v m t : ℕ} {Ok : K → Type 0} {vx : K → Vtx} {nk mk 
     simple = λ i j h l e. r .simple i j h l (num-inj v m t _ _ (T .fits (getD f i d) (o _ (getD-mem f i d h))) (T .fits (getD f j d) (o _ (getD-mem f j d l))) e);
   }
 
-  pub shell-of : Table v m t Ok vx nk mk → Held Ok fs → ((f : List K) → Mem f fs → Round d vx nk f) → Shell (offsetsOf (drawn (numbered v m vx) fs)) (flat (drawn (numbered v m vx) fs)) (v + m + t)
+  pub shell-of : Table v m t Ok vx nk mk → Held Ok fs → ((f : List K) → Mem f fs → Round d vx nk f) → Laid (drawn (numbered v m vx) fs) (v + m + t)
   shell-of T H R = shell-laid d (numbered v m vx) fs (λ f h. rounded T f (λ k j. H .only k (mem-joined h j)) (R f h)) H (matched T)
 
--- ---- rows told apart by the kinds of the two ends, but for some more rows of one kind
+-- ---- rows told apart by the kinds of the two ends
+pub apart-rows :
+    {R : Type 0} (Ok : R × ℕ → Type 0) (vx : R × ℕ → Vtx) (nk : R × ℕ → R × ℕ) (which : Vtx → Vtx → R) → ((r : R) (c : ℕ) → which (vx (r, c)) (vx (nk (r, c))) ≡ r) →
+    ((r : R) (c d : ℕ) → Ok (r, c) → Ok (r, d) → vx (r, c) ≡ vx (r, d) → vx (nk (r, c)) ≡ vx (nk (r, d)) → c ≡ d) →
+    (k l : R × ℕ) → Ok k → Ok l → vx k ≡ vx l → vx (nk k) ≡ vx (nk l) → k ≡ l
+apart-rows {R} Ok vx nk which w f k l h i p q =
+    let d : ℕ = l .1 in
+    let e : l .0 ≡ k .0 = sym (w (l .0) d) ∙ ap₂ which (sym p) (sym q) ∙ w (k .0) (k .1) in
+    let g : k .1 ≡ d = f (k .0) (k .1) d h (subst (λ r. Ok (r, d)) e i) (p ∙ ap (λ r. vx (r, d)) e) (q ∙ ap (λ r. vx (nk (r, d))) e) in
+    λ z. (sym e z, g z)
+
+-- but for some more rows of one kind
 pub data Rows (G X : Type 0) : Type 0 where
   row : G → Rows G X
   more : X → Rows G X

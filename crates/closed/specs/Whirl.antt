@@ -15,12 +15,12 @@ use Rattle.rule.specs.declared.Move.the-variants.{Here}
 use Rattle.closed.specs.Keeps.{Shell, Keeps}
 use Rattle.closed.specs.Rules.{whirlRule}
 use Rattle.closed.specs.Faces.{whirlFrom, whirlFaces}
-use Rattle.closed.specs.Lists.{Nodup, nd0, nd, nodup-nth, out}
+use Rattle.closed.specs.Lists.{nd0, nd, nodup-nth, out}
 use Rattle.closed.specs.Net.{dirOf, dir<, nx<, pv<, mt<, nx-pv, mt-st, mt-en, mt-mt, nx-inj, mt-inj, nx≢, nx2≢, mt≢, mt≢nx, twice}
 use Rattle.closed.specs.Layout.{Round, drawn}
-use Rattle.closed.specs.Rule.{Vtx, old, mid, top, Fits, Rows, row, more, Same, Told, apart-by, num, numbered, dirs-inj, dirs≢, mid-inj, old≢mid, old≢top, top≢mid, top≢old}
+use Rattle.closed.specs.Rule.{Vtx, old, mid, top, slotAt, Fits, Rows, row, more, Same, apart-by, num, numbered, dirs-inj, dirs≢, mid-inj, old≢mid, old≢top, top≢mid, top≢old}
 use Rattle.closed.specs.Parts.{Chain, written, column, columns, rings, Sized, sized-append, sized-corner, sized-face}
-use Rattle.closed.specs.Uniform.{Uniform, shell-last, draw-last}
+use Rattle.closed.specs.Uniform.{Uniform, onward, shell-last, draw-last}
 
 -- the corners of the new faces by the kinds of their edges' ends, each with its vertex, the next corner, and the corner across
 pub data G : Type 0 where
@@ -35,23 +35,20 @@ Row = Rows G X
 abbrev pub rows : List Row
 rows = row top-top ∷ row top-old ∷ row old-top ∷ row top-mid ∷ more back ∷ row mid-top ∷ []
 
+abbrev pub nth : Row → ℕ
+nth (row mid-mid) = 0
+nth (row top-top) = 1
+nth (row top-old) = 2
+nth (row old-top) = 3
+nth (row top-mid) = 4
+nth (more back) = 5
+nth (row mid-top) = 6
+
 unfoldable pub vr : List ℕ → List ℕ → Row → ℕ → Vtx
-vr o k (row mid-mid) c = mid c
-vr o k (row top-top) c = top (dirOf o k c)
-vr o k (row top-old) c = top (dirOf o k (mate o k c))
-vr o k (row old-top) c = old (getD k (next o c) 0)
-vr o k (row top-mid) c = top (dirOf o k (next o c))
-vr o k (more back) c = mid (next o c)
-vr o k (row mid-top) c = mid c
+vr o k r c = slotAt mid o k (getD (cor Here ∷ whirlRule) (nth r) (cor Here)) c
 
 unfoldable pub nr : List ℕ → Row → ℕ → Row × ℕ
-nr o (row mid-mid) c = (row mid-mid, next o c)
-nr o (row top-top) c = (row top-old, c)
-nr o (row top-old) c = (row old-top, c)
-nr o (row old-top) c = (row top-mid, c)
-nr o (row top-mid) c = (more back, c)
-nr o (more back) c = (row mid-top, c)
-nr o (row mid-top) c = (row top-top, c)
+nr o r c = onward o (row top-top) rows nth r c
 
 unfoldable pub mr : List ℕ → List ℕ → Row → ℕ → Row × ℕ
 mr o k (row mid-mid) c = (more back, c)
@@ -81,28 +78,18 @@ which (top i) (old j) = top-old
 which (top i) (mid j) = top-mid
 which (top i) (top j) = top-top
 
-nth : Row → ℕ
-nth (row mid-mid) = 0
-nth (row top-top) = 1
-nth (row top-old) = 2
-nth (row old-top) = 3
-nth (row top-mid) = 4
-nth (more back) = 5
-nth (row mid-top) = 6
-
 module _ (o k : List ℕ) (v : ℕ) (S : Shell o k v) where
-  round : (c : ℕ) → c < length k → Round (row mid-mid, 0) (vx o k) (nk o) (column rows c)
-  unfolding vr nr Chain
-  round c h =
+  paired : (r : Row) (c : ℕ) → c < length k → (mr o k r c .1 < length k) × (vx o k (mr o k r c) ≡ vx o k (nr o r c)) × (vx o k (nk o (mr o k r c)) ≡ vr o k r c)
+  unfolding vr nr mr
+  paired (row mid-mid) c h = (h, refl, refl)
+  paired (row top-top) c h = (mt< S c h, refl, ap (λ z. top (dirOf o k z)) (mt-mt S c h))
+  paired (row top-old) c h =
       let m = mt< S c h in
-      let n = nx< S c h in
-      written (row mid-mid, 0) (vx o k) (nk o) _ _ (omega arith) (refl, (refl, (refl, (refl, (refl, refl)))))
-      (nd (out (dirs≢ S h m (λ e. mt≢ S c h (sym e))) (out top≢old (out (dirs≢ S h n (λ e. nx≢ S c h (sym e))) (out top≢mid (out top≢mid not-nil)))))
-      (nd (out top≢old (out (dirs≢ S m n (mt≢nx S c h)) (out top≢mid (out top≢mid not-nil))))
-      (nd (out old≢top (out old≢mid (out old≢mid not-nil)))
-      (nd (out top≢mid (out top≢mid not-nil))
-      (nd (out (λ e. nx≢ S c h (mid-inj e)) not-nil)
-      (nd not-nil nd0))))))
+      (pv< S (mate o k c) m, ap old (ap (λ z. getD k z 0) (nx-pv S (mate o k c) m) ∙ mt-st S c h), ap (λ z. top (dirOf o k z)) (nx-pv S (mate o k c) m))
+  paired (row old-top) c h = let n = nx< S c h in (mt< S (next o c) n, ap (λ z. top (dirOf o k z)) (mt-mt S (next o c) n), ap old (mt-en S (next o c) n))
+  paired (row top-mid) c h = (nx< S c h, refl, refl)
+  paired (more back) c h = (h, refl, refl)
+  paired (row mid-top) c h = (pv< S c h, ap (λ z. top (dirOf o k z)) (nx-pv S c h), ap mid (nx-pv S c h))
 
   fits : (r : Row) (c : ℕ) → c < length k → Fits v (length k) (2 * edges o k) (vr o k r c)
   unfolding vr
@@ -144,17 +131,18 @@ module _ (o k : List ℕ) (v : ℕ) (S : Shell o k v) where
   unfolding vr nr
   clash back c d h l p = nx2≢ S d l (ap (next o) (sym (mid-inj (p .0))) ∙ mid-inj (p .1))
 
-  paired : (r : Row) (c : ℕ) → c < length k → (mr o k r c .1 < length k) × (vx o k (mr o k r c) ≡ vx o k (nr o r c)) × (vx o k (nk o (mr o k r c)) ≡ vr o k r c)
-  unfolding vr nr mr
-  paired (row mid-mid) c h = (h, refl, refl)
-  paired (row top-top) c h = (mt< S c h, refl, ap (λ z. top (dirOf o k z)) (mt-mt S c h))
-  paired (row top-old) c h =
+  round : (c : ℕ) → c < length k → Round (row mid-mid, 0) (vx o k) (nk o) (column rows c)
+  unfolding vr nr Chain
+  round c h =
       let m = mt< S c h in
-      (pv< S (mate o k c) m, ap old (ap (λ z. getD k z 0) (nx-pv S (mate o k c) m) ∙ mt-st S c h), ap (λ z. top (dirOf o k z)) (nx-pv S (mate o k c) m))
-  paired (row old-top) c h = let n = nx< S c h in (mt< S (next o c) n, ap (λ z. top (dirOf o k z)) (mt-mt S (next o c) n), ap old (mt-en S (next o c) n))
-  paired (row top-mid) c h = (nx< S c h, refl, refl)
-  paired (more back) c h = (h, refl, refl)
-  paired (row mid-top) c h = (pv< S c h, ap (λ z. top (dirOf o k z)) (nx-pv S c h), ap mid (nx-pv S c h))
+      let n = nx< S c h in
+      written (row mid-mid, 0) (vx o k) (nk o) _ _ (omega arith) (refl, (refl, (refl, (refl, (refl, refl)))))
+      (nd (out (dirs≢ S h m (λ e. mt≢ S c h (sym e))) (out top≢old (out (dirs≢ S h n (λ e. nx≢ S c h (sym e))) (out top≢mid (out top≢mid not-nil)))))
+      (nd (out top≢old (out (dirs≢ S m n (mt≢nx S c h)) (out top≢mid (out top≢mid not-nil))))
+      (nd (out old≢top (out old≢mid (out old≢mid not-nil)))
+      (nd (out top≢mid (out top≢mid not-nil))
+      (nd (out (λ e. nx≢ S c h (mid-inj e)) not-nil)
+      (nd not-nil nd0))))))
 
   rows-all : (r : Row) → Mem r (row mid-mid ∷ rows)
   rows-all (row mid-mid) = here refl
@@ -166,7 +154,7 @@ module _ (o k : List ℕ) (v : ℕ) (S : Shell o k v) where
   rows-all (row mid-top) = there (there (there (there (there (there (here refl))))))
 
   uniform : Uniform o k v (length k) (2 * edges o k) (row mid-mid) rows (vx o k) (nk o) (mk o k)
-  unfolding nth each vr nr
+  unfolding each vr nr
   uniform = record {
     rows-once = nodup-nth nth (row mid-mid ∷ rows) 7 refl;
     rows-all = rows-all;

@@ -12,3 +12,4 @@ pub mod Ring
 pub mod Wheel
 pub mod Ranks
 pub mod Pieces
+pub mod Scan

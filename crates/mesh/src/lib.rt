@@ -4,10 +4,11 @@ ghost use mathlib.Core.Path.{_≡_};
 ghost use Prim.Native.Nat.{_+_, _<_, _≤_};
 ghost use lib.ListN.{length};
 ghost use lib.Seq.{sets};
-ghost use Rattle.slices.specs.First.{first, count};
+ghost use Rattle.slices.specs.First.{first, count, isAt};
 ghost use Rattle.slices.specs.Lists.{each};
 ghost use Rattle.mesh.specs.Mesh.{faces, pairOf, turnedOf, orderedOf, samePair, nextIn, faceAfter, window, windowIs, mate, faceOf, prevIn, turn, next, prev};
 ghost use Rattle.mesh.specs.Corners.{Paired};
+ghost use Rattle.mesh.specs.Scan.{Skipped, Behind};
 ghost use Rattle.mesh.specs.Edges.{Faced, Sound, edge, up, rank, edges};
 ghost use Rattle.mesh.specs.EdgeList.{rise, listing, answerOf, listAfter};
 ghost use Rattle.mesh.specs.Shape.{Shaped, In, Full, Limited};
@@ -266,7 +267,38 @@ fn window_is(offsets: &[u32], corners: &[u32], e: [u32; 2], f: usize, c: usize) 
     same(window_in(offsets, corners, f, c), e)
 }
 
-// The lowest corner below `stop` whose directed edge is `e`.
+// The first corner from `from` on and below `stop` that is vertex `v`; `stop` where there is none.
+fn starts_at(corners: &[u32], v: u32, from: usize, stop: usize) -> usize
+    requires { ⌜ from ≤ stop ⌝ }
+    requires { ⌜ stop ≤ length (now corners) ⌝ }
+    ensures { λ r. ⌜ Skipped (isAt (now (corners .entry)) v) stop from r ⌝ }
+{
+    let mut c = from;
+    while c < stop {
+        if corners[c] == v {
+            return c;
+        }
+        c += 1;
+    }
+    c
+}
+
+// The face of corner `c`, found from face `f` on.
+fn face_from(offsets: &[u32], f: usize, c: usize) -> usize
+    requires { ⌜ Behind (now offsets) c f ⌝ }
+    ensures { λ r. ⌜ r ≡ faceOf (now (offsets .entry)) c ⌝ }
+{
+    let mut g = f;
+    while g + 1 < offsets.len() {
+        if c < slices::wide(offsets[g + 1]) {
+            return g;
+        }
+        g += 1;
+    }
+    g
+}
+
+// The lowest corner below `stop` whose directed edge is `e`: only at corners where `e` starts the rest is looked at.
 pub fn find_window(offsets: &[u32], corners: &[u32], e: [u32; 2], stop: usize) -> usize
     requires { ⌜ Shaped (now offsets) (length (now corners)) ⌝ }
     requires { ⌜ Full (now offsets) ⌝ }
@@ -276,11 +308,14 @@ pub fn find_window(offsets: &[u32], corners: &[u32], e: [u32; 2], stop: usize) -
     let mut f = 0;
     let mut c = 0;
     while c < stop {
-        if window_is(offsets, corners, e, f, c) {
-            return c;
+        c = starts_at(corners, e[0], c, stop);
+        if c < stop {
+            f = face_from(offsets, f, c);
+            if window_is(offsets, corners, e, f, c) {
+                return c;
+            }
+            c += 1;
         }
-        f = face_after(offsets, f, c);
-        c += 1;
     }
     c
 }
@@ -359,14 +394,7 @@ fn alone_at(offsets: &[u32], corners: &[u32]) -> usize
 pub fn face_of(offsets: &[u32], c: usize) -> usize
     ensures { λ r. ⌜ r ≡ faceOf (now (offsets .entry)) c ⌝ }
 {
-    let mut f = 0;
-    while f + 1 < offsets.len() {
-        if c < slices::wide(offsets[f + 1]) {
-            return f;
-        }
-        f += 1;
-    }
-    f
+    face_from(offsets, 0, c)
 }
 
 // The corner before `c` round face `f`.

@@ -1,2 +1,2 @@
-pub mod Copy
-pub mod Trail
+pub mod Run
+pub mod RunLaws

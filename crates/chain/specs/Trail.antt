@@ -11,8 +11,8 @@ use Rattle.engine.specs.declared.Answer.{Answer}
 use Rattle.engine.specs.declared.Answer.the-variants.{Done, Refused}
 use Rattle.steps.specs.Steps.{Mesh, Room, Masks, mesh, codeOf, stepOn}
 use Rattle.steps.specs.declared.Step.{Step}
-use Rattle.runner.specs.Copy.{copyOutcome}
-use Rattle.runner.specs.declared.Row.{Row}
+use Rattle.copies.specs.Copy.{copyOutcome}
+use Rattle.chain.specs.declared.Row.{Row}
 
 -- ---- what a list of steps comes to
 

@@ -1,0 +1,3 @@
+pub mod Trail
+pub mod Chained
+pub mod ChainLaws

@@ -1,0 +1,4 @@
+pub mod StepWords
+pub mod Parts
+pub mod Laws
+pub mod Items
