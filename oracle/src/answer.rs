@@ -1,10 +1,10 @@
-//! The line that `replay` must print for a case.
+//! The line that the programs must print for a case.
 use crate::arithmetic;
 use crate::case::{Case, Function};
 use crate::mesh::{Mesh, Point, LIMIT};
-use crate::meshes::AMPLE;
 use crate::operator::{Operator, Parameters};
-use crate::recipe::{self, Lent, List, RefusedAt};
+use crate::recipe::RefusedAt;
+use crate::run_answer;
 use crate::rust_side;
 use crate::table::{self, Refusal};
 use std::fmt::Write;
@@ -32,7 +32,9 @@ pub enum Outcome {
 pub fn answer(case: &Case) -> Answer {
     match case.function {
         Function::Operator(operator) => operator_answer(operator, case),
-        Function::List(list) => list_answer(list, case),
+        Function::List(list) => run_answer::list(list, case),
+        Function::Recipe => run_answer::recipe(case),
+        Function::File => run_answer::file(case),
         Function::Root => done(root_line(&case.mesh.coordinates)),
         Function::Centroid => face_answer(case, |mesh| point_line(rust_side::centroid(mesh))),
         Function::Normal => face_answer(case, |mesh| point_line(rust_side::normal(mesh))),
@@ -70,49 +72,50 @@ fn operator_answer(operator: Operator, case: &Case) -> Answer {
     mesh_answer(result.map_err(|refusal| RefusedAt { step: 0, refusal }), case)
 }
 
-/// A list that is lent ample work meshes.
-fn list_answer(list: List, case: &Case) -> Answer {
-    let lent = Lent { work: [AMPLE; 2], output: case.room };
-    mesh_answer(recipe::run_steps(&list.steps(&case.parameters), &case.mesh, lent).outcome, case)
-}
-
-fn mesh_answer(result: Result<Mesh, RefusedAt>, case: &Case) -> Answer {
-    let mut line = match &result {
-        Ok(mesh) => {
-            let [positions, edges, faces] = mesh.counts();
-            format!("0 0 0 {positions} {edges} {faces}")
-        }
-        Err(RefusedAt { step, refusal }) => {
-            format!("{} {} {step} 0 0 0", refusal.number, refusal.place)
-        }
-    };
-    let outcome = match &result {
-        Ok(_) => Outcome::Done,
-        Err(refused) => Outcome::Refused(refused.refusal),
-    };
-    let written = result.unwrap_or_default();
-    let room = case.room;
-    put(&mut line, 'o', lent(&written.offsets, room.offsets, case.fill), |n| n.to_string());
-    put(&mut line, 'c', lent(&written.corners, room.corners, case.fill), |n| n.to_string());
-    let bits: Vec<u32> = written.coordinates.iter().map(|number| number.to_bits()).collect();
-    put(&mut line, 'x', lent(&bits, room.coordinates, case.fill), float_text);
+/// The line of a call that makes a mesh.
+pub fn mesh_answer(result: Result<Mesh, RefusedAt>, case: &Case) -> Answer {
+    let (mut line, outcome) = begun(&result);
+    put_output(&mut line, &result.unwrap_or_default(), case);
     Answer { line, outcome }
 }
 
+/// The line's start: number, place, step, V, E and F.
+pub fn begun(result: &Result<Mesh, RefusedAt>) -> (String, Outcome) {
+    match result {
+        Ok(mesh) => {
+            let [positions, edges, faces] = mesh.counts();
+            (format!("0 0 0 {positions} {edges} {faces}"), Outcome::Done)
+        }
+        Err(RefusedAt { step, refusal }) => {
+            let Refusal { number, place } = refusal;
+            (format!("{number} {place} {step} 0 0 0"), Outcome::Refused(*refusal))
+        }
+    }
+}
+
+/// The lent output after the call.
+pub fn put_output(line: &mut String, written: &Mesh, case: &Case) {
+    let room = case.room;
+    put(line, 'o', lent(&written.offsets, room.offsets, case.fill), |n| n.to_string());
+    put(line, 'c', lent(&written.corners, room.corners, case.fill), |n| n.to_string());
+    let bits: Vec<u32> = written.coordinates.iter().map(|number| number.to_bits()).collect();
+    put(line, 'x', lent(&bits, room.coordinates, case.fill), float_text);
+}
+
 /// A lent slice after the call: what was written, then the fill as it was.
-fn lent(written: &[u32], length: usize, fill: u32) -> Vec<u32> {
+pub fn lent(written: &[u32], length: usize, fill: u32) -> Vec<u32> {
     let untouched = (written.len()..length).map(|index| fill.wrapping_add(index as u32));
     written.iter().copied().chain(untouched).collect()
 }
 
-fn put<T>(line: &mut String, name: char, items: Vec<T>, text: impl Fn(T) -> String) {
+pub fn put<T>(line: &mut String, name: char, items: Vec<T>, text: impl Fn(T) -> String) {
     write!(line, " {name}").expect("a string");
     for item in items {
         write!(line, " {}", text(item)).expect("a string");
     }
 }
 
-fn float_text(bits: u32) -> String {
+pub fn float_text(bits: u32) -> String {
     if f32::from_bits(bits).is_nan() {
         "nan".to_string()
     } else {

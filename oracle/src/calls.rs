@@ -40,7 +40,8 @@ fn case(
     room: Room,
     random: &mut Random,
 ) -> Case {
-    Case { function: Function::Operator(operator), parameters, mesh, room, fill: fill(random) }
+    let function = Function::Operator(operator);
+    Case { parameters, room, fill: fill(random), ..Case::new(function, mesh) }
 }
 
 /// What lent slices start from: small, about the largest, floats, infinities and no numbers.
@@ -53,7 +54,7 @@ pub fn fill(random: &mut Random) -> u32 {
     }
 }
 
-fn parameters(operator: Operator, mesh: &Mesh, random: &mut Random) -> Parameters {
+pub fn parameters(operator: Operator, mesh: &Mesh, random: &mut Random) -> Parameters {
     let kis = operator == Operator::Kis;
     Parameters {
         ratio: operator.takes_ratio().then(|| coordinates::parameter(random)).flatten(),
@@ -80,7 +81,7 @@ fn face_mask(mesh: &Mesh, random: &mut Random) -> Option<Vec<u32>> {
     mask(random, &entries)
 }
 
-fn parameters_not_finite(
+pub fn parameters_not_finite(
     mut parameters: Parameters,
     operator: Operator,
     random: &mut Random,
@@ -95,7 +96,7 @@ fn parameters_not_finite(
 }
 
 /// Room for the result: exact or larger in some slices.
-fn enough(sizes: Sizes, random: &mut Random) -> Room {
+pub fn enough(sizes: Sizes, random: &mut Random) -> Room {
     let exact = sizes.room();
     let mut more = || if random.once_in(2) { 0 } else { random.between(1, 7) };
     Room {
@@ -106,7 +107,7 @@ fn enough(sizes: Sizes, random: &mut Random) -> Room {
 }
 
 /// The room with one slice a little shorter.
-fn shortened(mut room: Room, random: &mut Random) -> Room {
+pub fn shortened(mut room: Room, random: &mut Random) -> Room {
     let less = random.pick(&[1, 1, 2, 8]);
     let length = match random.below(3) {
         0 => &mut room.offsets,
@@ -122,7 +123,7 @@ fn halved(room: Room) -> Room {
 }
 
 /// Coordinates and numbers so large, or a centre so near the origin, that results overflow.
-fn overflow(case: &mut Case, random: &mut Random) {
+pub fn overflow(case: &mut Case, random: &mut Random) {
     let huge = random.pick(&[f32::MAX, 3e38, 1e38, 1e30, 0.0]);
     let part = random.pick(&[1, 2, 10]);
     for number in &mut case.mesh.coordinates {
@@ -166,7 +167,7 @@ fn many_loose_faces() -> Mesh {
 }
 
 /// As many positions as a mesh may have.
-fn full_of_spares(random: &mut Random) -> Mesh {
+pub fn full_of_spares(random: &mut Random) -> Mesh {
     let mesh = random.pick(&[shapes::tetrahedron(), shapes::dense(7)]);
     shapes::with_spares(&mesh, LIMIT - mesh.position_count())
 }

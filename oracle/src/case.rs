@@ -1,13 +1,36 @@
-//! One case of the program `replay`, and its words (docs/REPLAY.md).
+//! One case of the programs `replay` and `rerun`, and its words (docs/REPLAY.md).
+use crate::extra::{self, Extra};
 use crate::mesh::Mesh;
-use crate::operator::{Operator, Parameters, OPERATORS};
+use crate::operator::{Operator, Parameters};
 use crate::recipe::{List, LISTS};
+
+/// The program that has a function.
+#[derive(Clone, Copy, Debug, PartialEq, Eq)]
+pub enum Program {
+    Replay,
+    Rerun,
+}
+
+impl Program {
+    pub const BOTH: [Program; 2] = [Program::Replay, Program::Rerun];
+
+    pub fn name(self) -> String {
+        format!("{self:?}").to_lowercase()
+    }
+
+    /// The codes that the program has, ascending.
+    pub fn codes(self) -> Vec<u32> {
+        let of = |code: &u32| Function::from_code(*code).map(Function::program) == Some(self);
+        (0..=LAST_CODE).filter(of).collect()
+    }
+}
 
 #[derive(Clone, Copy, Debug, PartialEq, Eq)]
 pub enum Function {
     Operator(Operator),
-    /// Not a code of `replay` yet.
     List(List),
+    Recipe,
+    File,
     Root,
     Centroid,
     Normal,
@@ -17,7 +40,7 @@ pub enum Function {
     Edges,
 }
 
-const HELPERS: [(u32, Function, &str); 7] = [
+const HELPERS: [(u32, Function, &str); 9] = [
     (20, Function::Root, "root"),
     (21, Function::Centroid, "centroid"),
     (22, Function::Normal, "normal"),
@@ -25,7 +48,10 @@ const HELPERS: [(u32, Function, &str); 7] = [
     (24, Function::CheckClosed, "check of 1, 2, 4 to 9"),
     (25, Function::CheckFans, "check of 1, 2, 4 to 11"),
     (26, Function::Edges, "edge list"),
+    (41, Function::Recipe, "recipe"),
+    (LAST_CODE, Function::File, "file"),
 ];
+const LAST_CODE: u32 = 42;
 
 /// The code of the first list; the others follow in the order of `LISTS`.
 const FIRST_LIST: u32 = 31;
@@ -59,23 +85,19 @@ impl Function {
         HELPERS.iter().find(|listed| listed.1 == self).expect("every helper is listed")
     }
 
-    /// The function of a code of `replay`, or the list of a code past those.
-    pub fn or_list(code: u32) -> Option<Function> {
-        let list =
-            || list_codes().find(|coded| coded.0 == code).map(|coded| Function::List(coded.1));
-        Function::from_code(code).or_else(list)
-    }
-
-    /// The function of a code of `replay`.
     pub fn from_code(code: u32) -> Option<Function> {
         let helper = HELPERS.iter().find(|listed| listed.0 == code).map(|listed| listed.1);
-        helper.or_else(|| Operator::from_code(code).map(Function::Operator))
+        let list =
+            || list_codes().find(|coded| coded.0 == code).map(|coded| Function::List(coded.1));
+        helper.or_else(list).or_else(|| Operator::from_code(code).map(Function::Operator))
     }
 
-    /// The codes that `replay` has, ascending.
-    pub fn codes() -> Vec<u32> {
-        let operators = OPERATORS.iter().map(|operator| operator.code());
-        operators.chain(HELPERS.iter().map(|listed| listed.0)).collect()
+    pub fn program(self) -> Program {
+        if self.code() < FIRST_LIST {
+            Program::Replay
+        } else {
+            Program::Rerun
+        }
     }
 }
 
@@ -87,6 +109,23 @@ pub struct Room {
     pub coordinates: usize,
 }
 
+impl Room {
+    /// The longest slices that a program lends.
+    pub const MOST: Room = Room { offsets: 65_536, corners: 65_536, coordinates: 196_608 };
+
+    pub fn at_most(self, most: Room) -> Room {
+        Room {
+            offsets: self.offsets.min(most.offsets),
+            corners: self.corners.min(most.corners),
+            coordinates: self.coordinates.min(most.coordinates),
+        }
+    }
+
+    pub fn lengths(self) -> [usize; 3] {
+        [self.offsets, self.corners, self.coordinates]
+    }
+}
+
 #[derive(Clone, Debug)]
 pub struct Case {
     pub function: Function,
@@ -94,6 +133,7 @@ pub struct Case {
     pub mesh: Mesh,
     pub room: Room,
     pub fill: u32,
+    pub extra: Extra,
 }
 
 const RATIO: u32 = 1;
@@ -104,8 +144,8 @@ const REGULAR: u32 = 16;
 const LONGER: u32 = 32;
 
 const HEADER: usize = 14;
-const NUMBERS_AT_MOST: u32 = 65_536;
-const COORDINATES_AT_MOST: u32 = 196_608;
+const NUMBERS_AT_MOST: u32 = Room::MOST.offsets as u32;
+const COORDINATES_AT_MOST: u32 = Room::MOST.coordinates as u32;
 
 /// A header over a limit, a case cut short or an unknown code.
 #[derive(Debug, PartialEq)]
@@ -113,7 +153,14 @@ pub struct BadCase;
 
 impl Case {
     pub fn new(function: Function, mesh: Mesh) -> Case {
-        Case { function, parameters: Parameters::default(), mesh, room: Room::default(), fill: 0 }
+        Case {
+            function,
+            parameters: Parameters::default(),
+            mesh,
+            room: Room::default(),
+            fill: 0,
+            extra: Extra::default(),
+        }
     }
 
     pub fn words(&self) -> Vec<u32> {
@@ -137,11 +184,18 @@ impl Case {
             self.fill,
             0,
         ];
+        let more = self.function.program() == Program::Rerun;
+        if more {
+            words.extend(self.extra.header());
+        }
         words.extend(&self.mesh.offsets);
         words.extend(&self.mesh.corners);
         words.extend(self.mesh.coordinates.iter().map(|number| number.to_bits()));
         words.extend(arities);
         words.extend(faces);
+        if more {
+            words.extend(self.extra.body());
+        }
         words
     }
 
@@ -168,6 +222,10 @@ impl Case {
         if header_over_a_limit(header) {
             return Err(BadCase);
         }
+        let (mut extra, steps, bytes) = match function.program() {
+            Program::Replay => (Extra::default(), 0, 0),
+            Program::Rerun => Extra::from_header(take(words, extra::WORDS)?)?,
+        };
         let count = |index: usize| header[index] as usize;
         let number = |flag: u32, index: usize| {
             (header[1] & flag != 0).then(|| f32::from_bits(header[index]))
@@ -179,6 +237,7 @@ impl Case {
         };
         let arities = take(words, count(7))?.to_vec();
         let faces = take(words, count(8))?.to_vec();
+        extra.take_body(words, steps, bytes)?;
         let parameters = Parameters {
             ratio: number(RATIO, 2),
             height: number(HEIGHT, 3),
@@ -188,7 +247,7 @@ impl Case {
             longer: header[1] & LONGER != 0,
         };
         let room = Room { offsets: count(9), corners: count(10), coordinates: count(11) };
-        Ok(Some(Case { function, parameters, mesh, room, fill: header[12] }))
+        Ok(Some(Case { function, parameters, mesh, room, fill: header[12], extra }))
     }
 }
 
@@ -208,7 +267,7 @@ fn header_over_a_limit(header: &[u32]) -> bool {
     COUNTS.iter().any(|(index, most)| header[*index] > *most)
 }
 
-fn take<'a>(words: &mut &'a [u32], count: usize) -> Result<&'a [u32], BadCase> {
+pub fn take<'a>(words: &mut &'a [u32], count: usize) -> Result<&'a [u32], BadCase> {
     if words.len() < count {
         return Err(BadCase);
     }

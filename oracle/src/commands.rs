@@ -1,7 +1,7 @@
 //! What each command of the oracle does; a difference or a shortfall is an error.
 use crate::answer::{answer, Outcome};
 use crate::calls;
-use crate::case::{read_stream, to_bytes, Case, Function, COUNTS};
+use crate::case::{read_stream, to_bytes, Case, Function, Program, COUNTS};
 use crate::damage;
 use crate::list;
 use crate::mesh::Mesh;
@@ -18,24 +18,35 @@ use std::path::Path;
 
 pub type Done = Result<(), String>;
 
-/// Writes the fixed list, of all codes or of those named.
-pub fn write_list(codes: &[String]) -> Done {
+/// Writes the fixed lists, of all codes or of those named.
+pub fn write_lists(codes: &[String]) -> Done {
     let named: Result<Vec<u32>, String> =
         codes.iter().map(|code| code.parse().map_err(|_| format!("not a code: {code}"))).collect();
-    let codes = if codes.is_empty() { Function::codes() } else { named? };
-    let folder = variable("LIST")?;
-    let (mut bytes, mut lines, mut tally) = (Vec::new(), String::new(), Tally::default());
-    for code in codes {
-        let cases = list::answered_cases(code).ok_or(format!("no function has code {code}"))?;
-        for (case, answer) in cases {
-            tally.count(&case, answer.outcome);
-            bytes.extend(to_bytes(&case.words()));
-            lines += &answer.line;
-            lines += "\n";
+    let named = named?;
+    if let Some(code) = named.iter().find(|code| Function::from_code(**code).is_none()) {
+        return Err(format!("no function has code {code}"));
+    }
+    for program in Program::BOTH {
+        let wanted = |code: &u32| named.is_empty() || named.contains(code);
+        let codes: Vec<u32> = program.codes().into_iter().filter(wanted).collect();
+        if !codes.is_empty() {
+            write_list(program, &codes)?;
         }
     }
-    let folder = Path::new(&folder);
-    std::fs::create_dir_all(folder).map_err(text)?;
+    Ok(())
+}
+
+/// The list of one program, in its folder.
+fn write_list(program: Program, codes: &[u32]) -> Done {
+    let (mut bytes, mut lines, mut tally) = (Vec::new(), String::new(), Tally::default());
+    for (case, answer) in codes.iter().flat_map(|code| list::answered_cases(*code)) {
+        tally.count(&case, answer.outcome);
+        bytes.extend(to_bytes(&case.words()));
+        lines += &answer.line;
+        lines += "\n";
+    }
+    let folder = Path::new(&variable("LISTS")?).join(program.name());
+    std::fs::create_dir_all(&folder).map_err(text)?;
     println!("{tally}{} bytes in, {} bytes out", bytes.len(), lines.len());
     std::fs::write(folder.join("stdin"), bytes).map_err(text)?;
     std::fs::write(folder.join("stdout"), lines).map_err(text)
@@ -45,7 +56,7 @@ pub fn write_list(codes: &[String]) -> Done {
 pub fn compare_numbers(roots: usize) -> Done {
     const ARGUMENTS_A_CASE: usize = 1000;
     let mut random = Random::new(1);
-    let mut comparison = Comparison::new()?;
+    let mut comparison = Comparison::new(Program::Replay)?;
     let mut arguments = numbers::chosen_arguments(&mut random);
     arguments.resize_with(roots.max(arguments.len()), || numbers::argument(&mut random));
     for chunk in arguments.chunks(ARGUMENTS_A_CASE) {
@@ -69,7 +80,7 @@ pub fn compare_checks(meshes: usize) -> Done {
     const MOST_CORNERS: usize = 80;
     const LARGE_ONES: usize = 400;
     let mut random = Random::new(2);
-    let mut comparison = Comparison::new()?;
+    let mut comparison = Comparison::new(Program::Replay)?;
     let mut compare = |mesh: Mesh, random: &mut Random| {
         if random.once_in(10) {
             comparison.add(list::edge_case(mesh.clone(), random))?;
@@ -128,7 +139,7 @@ pub fn compare_operators(done: usize) -> Done {
     const MOST_CORNERS: usize = 160;
     const LARGE_ONES: usize = 220;
     let mut random = Random::new(3);
-    let mut comparison = Comparison::new()?;
+    let mut comparison = Comparison::new(Program::Replay)?;
     let in_turn = || OPERATORS.iter().cycle().copied();
     for operator in in_turn().take(done) {
         let make = |random: &mut Random| calls::likely_done(operator, random, MOST_CORNERS);
@@ -149,7 +160,11 @@ pub fn compare_operators(done: usize) -> Done {
 }
 
 /// Each number was met so often.
-fn demand(comparison: &Comparison, numbers: impl IntoIterator<Item = u32>, often: usize) -> Done {
+pub fn demand(
+    comparison: &Comparison,
+    numbers: impl IntoIterator<Item = u32>,
+    often: usize,
+) -> Done {
     let seldom = |number: &u32| comparison.tally.met(*number) < often;
     match numbers.into_iter().find(seldom) {
         Some(number) => Err(format!("number {number} was met less than {often} times")),
@@ -191,7 +206,7 @@ fn read_file(file: Option<&String>) -> Result<Vec<u8>, String> {
     std::fs::read(file.ok_or("this command needs a file")?).map_err(text)
 }
 
-/// Answers a stream of cases as `replay` must.
+/// Answers a stream of cases as the program that has their codes must.
 pub fn answer_stream() -> Done {
     let mut bytes = Vec::new();
     std::io::stdin().read_to_end(&mut bytes).map_err(text)?;

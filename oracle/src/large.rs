@@ -1,6 +1,6 @@
 //! Each operator at the largest result within the limits.
 use crate::answer::answer;
-use crate::case::{Case, Function};
+use crate::case::{Case, Function, Program};
 use crate::mesh::{Mesh, LIMIT};
 use crate::operator::{Operator, Parameters, OPERATORS};
 use crate::replay::Comparison;
@@ -9,7 +9,7 @@ use crate::table::{self, Sizes};
 use std::time::Instant;
 
 pub fn compare() -> Result<(), String> {
-    let mut comparison = Comparison::new()?;
+    let mut comparison = Comparison::new(Program::Replay)?;
     for operator in OPERATORS {
         compare_one(&mut comparison, operator, largest(operator))?;
     }
@@ -23,7 +23,7 @@ fn compare_one(comparison: &mut Comparison, operator: Operator, mesh: Mesh) -> R
     let parameters = Parameters::default();
     let sizes = table::result_sizes(operator, &parameters, &mesh);
     let function = Function::Operator(operator);
-    let case = Case { function, parameters, mesh, room: sizes.room(), fill: 0 };
+    let case = Case { parameters, room: sizes.room(), ..Case::new(function, mesh) };
     let started = Instant::now();
     let answer = answer(&case);
     let text = started.elapsed();

@@ -3,12 +3,13 @@ use crate::answer::{answer, Answer};
 use crate::calls;
 use crate::case::{Case, Function, Room};
 use crate::damage;
+use crate::files;
+use crate::kept;
 use crate::mesh::{Mesh, LIMIT};
 use crate::meshes;
 use crate::numbers;
 use crate::operator::Operator;
 use crate::random::Random;
-use crate::recipe::List;
 use crate::shapes;
 use crate::tally::Tally;
 
@@ -16,32 +17,28 @@ const ARGUMENTS: usize = 1000;
 const ARGUMENTS_A_CASE: usize = 64;
 const FACES_A_HELPER: usize = 300;
 const DONE_AN_OPERATOR: usize = 150;
-const CASES_A_LIST: usize = 100;
 const GOOD_A_CHECK: usize = 60;
 /// Of refusals so many are looked through, and of each kind so many kept.
 const LOOKED_THROUGH: usize = 4000;
 const KEPT_OF_A_KIND: usize = 3;
 const MOST_CORNERS: usize = 36;
-/// Lent to a list.
-const SOME: Room = Room { offsets: 700, corners: 2_000, coordinates: 2_000 };
 
 /// The cases of one code with their answers. Its seed is the code.
-pub fn answered_cases(code: u32) -> Option<Vec<(Case, Answer)>> {
+pub fn answered_cases(code: u32) -> Vec<(Case, Answer)> {
     let mut random = Random::new(u64::from(code));
     let random = &mut random;
-    let cases = match Function::or_list(code)? {
+    match Function::from_code(code).expect("a known code") {
         Function::Operator(operator) => operator_cases(operator, random),
-        Function::List(list) => {
-            answered((0..CASES_A_LIST).map(|_| list_case(list, random)).collect())
-        }
+        Function::List(list) => kept::list_cases(list, random),
+        Function::Recipe => kept::recipe_cases(random),
+        Function::File => answered(files::fixed(random)),
         Function::Root => answered(root_cases(random)),
         check @ (Function::CheckClosed | Function::CheckFans) => check_cases(check, random),
         Function::Edges => edge_cases(random),
         helper => {
             answered((0..FACES_A_HELPER).map(|_| numbers::face_case(helper, random)).collect())
         }
-    };
-    Some(cases)
+    }
 }
 
 fn answered(cases: Vec<Case>) -> Vec<(Case, Answer)> {
@@ -56,16 +53,6 @@ fn root_cases(random: &mut Random) -> Vec<Case> {
     let mut arguments = numbers::chosen_arguments(random);
     arguments.extend((0..ARGUMENTS).map(|_| numbers::argument(random)));
     arguments.chunks(ARGUMENTS_A_CASE).map(numbers::root_case).collect()
-}
-
-/// A list on a mesh that its first step may take, in an output of room enough or somewhat short.
-fn list_case(list: List, random: &mut Random) -> Case {
-    let room = Room { corners: random.pick(&[60, 600, 2_000]), ..SOME };
-    Case {
-        parameters: calls::list_parameters(random),
-        room,
-        ..Case::new(Function::List(list), meshes::fanned(random, MOST_CORNERS))
-    }
 }
 
 fn operator_cases(operator: Operator, random: &mut Random) -> Vec<(Case, Answer)> {

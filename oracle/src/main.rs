@@ -1,12 +1,18 @@
-//! The oracle: the Rust text, and a second reading of document 01, against the program `replay`.
+//! The oracle: the Rust text, and a second reading of document 01, against the programs `replay` and `rerun`.
 mod agreement;
 mod answer;
 mod arithmetic;
 mod calls;
 mod case;
+mod chains;
 mod commands;
+mod compare_runs;
 mod coordinates;
 mod damage;
+mod extra;
+mod files;
+mod genus;
+mod kept;
 mod large;
 mod list;
 mod mesh;
@@ -17,16 +23,20 @@ mod panel;
 mod random;
 mod recipe;
 mod replay;
+mod run_answer;
+mod runs;
 mod rust_side;
 mod shapes;
+mod shells;
 mod show;
 mod table;
 mod tally;
 #[cfg(test)]
 mod tests;
 
-const USAGE: &str = "commands: list [CODE ..], numbers [N], checks [N], operators [N], large,
-  case FILE, answer, report FILE, self [N]";
+const USAGE: &str = "commands: list [CODE ..], numbers [N], checks [N], operators [N], chains [N],
+  lists [N], recipes [N], files [N], large,
+  case FILE, answer, report FILE, shells, self [N]";
 
 fn main() {
     let arguments: Vec<String> = std::env::args().skip(1).collect();
@@ -43,15 +53,20 @@ fn run(arguments: &[String]) -> commands::Done {
         None => Ok(default),
     };
     match name.as_str() {
-        "list" => commands::write_list(rest),
+        "list" => commands::write_lists(rest),
         "numbers" => commands::compare_numbers(count(1_000_000)?),
         "checks" => commands::compare_checks(count(200_000)?),
         "operators" => commands::compare_operators(count(50_000)?),
+        "chains" => chains::compare(count(10_000)?),
+        "lists" => compare_runs::lists(count(20_000)?),
+        "recipes" => compare_runs::recipes(count(20_000)?),
+        "files" => files::compare(count(100_000)?),
         "large" => large::compare(),
         "self" => agreement::all(count(2_000)?),
         "case" => commands::show_cases(rest.first()),
         "answer" => commands::answer_stream(),
         "report" => commands::report_file(rest.first()),
+        "shells" => shells::write_all(),
         _ => Err(USAGE.to_string()),
     }
 }

@@ -20,6 +20,24 @@ pub fn closed(random: &mut Random, most_corners: usize) -> Mesh {
     finished(found, random)
 }
 
+/// A closed mesh of one or more parts, with handles, hubs and spare positions or without.
+pub fn of_any_build(random: &mut Random, most_corners: usize) -> Mesh {
+    if random.once_in(2) {
+        return closed(random, most_corners);
+    }
+    let made = |random: &mut Random| {
+        let mesh = shapes::handles(random.pick(&[1, 2, 2, 3, 3, 4, 5, 6]), random);
+        match random.below(6) {
+            0 => shapes::union(&mesh, &solid(random, true)),
+            1 => hubbed(&mesh, random),
+            2 => shapes::with_spares(&mesh, random.between(1, 5)),
+            _ => mesh,
+        }
+    };
+    let found = until(|| made(random), |mesh| table::check_closed(mesh).is_ok());
+    finished(found, random)
+}
+
 /// A mesh that numbers 1 to 11 let through.
 pub fn fanned(random: &mut Random, most_corners: usize) -> Mesh {
     let found = until(

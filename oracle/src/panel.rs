@@ -12,7 +12,7 @@ const MOST_CORNERS: usize = 1200;
 const RATIO_PRESENT: u32 = 1;
 const HEIGHT_PRESENT: u32 = 2;
 
-#[derive(Debug, PartialEq)]
+#[derive(Debug, Default, PartialEq)]
 pub struct Panel {
     pub steps: Vec<Step>,
     pub mesh: Mesh,

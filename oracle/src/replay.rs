@@ -1,6 +1,6 @@
-//! The program `replay` run on cases, its lines held against the oracle's.
+//! The program `replay` or `rerun` run on cases, its lines held against the oracle's.
 use crate::answer::{answer, Answer, Outcome};
-use crate::case::{to_bytes, Case};
+use crate::case::{to_bytes, Case, Program};
 use crate::commands::variable;
 use crate::show;
 use crate::tally::Tally;
@@ -21,9 +21,10 @@ pub struct Comparison {
 }
 
 impl Comparison {
-    pub fn new() -> Result<Comparison, String> {
-        let path = variable("REPLAY")?;
-        let missing = |_| format!("no program replay at {path} (set REPLAY)");
+    pub fn new(program: Program) -> Result<Comparison, String> {
+        let name = program.name();
+        let path = variable(&name.to_uppercase())?;
+        let missing = |_| format!("no program {name} at {path} (set {})", name.to_uppercase());
         let program = std::fs::canonicalize(&path).map_err(missing)?;
         Ok(Comparison {
             program,
@@ -49,7 +50,7 @@ impl Comparison {
         Ok(is_wanted)
     }
 
-    fn add_answered(&mut self, case: Case, answer: Answer) -> Result<(), String> {
+    pub fn add_answered(&mut self, case: Case, answer: Answer) -> Result<(), String> {
         self.tally.count(&case, answer.outcome);
         self.batch_words += case.words().len();
         self.batch.push((case, answer));
@@ -95,22 +96,7 @@ impl Comparison {
 
     /// Runs the program on a stream and hands back what it prints.
     pub fn run(&self, bytes: &[u8]) -> Result<String, String> {
-        let failed = |error: std::io::Error| format!("{}: {error}", self.program.display());
-        let mut child = Command::new(&self.program)
-            .stdin(Stdio::piped())
-            .stdout(Stdio::piped())
-            .spawn()
-            .map_err(failed)?;
-        let mut input = child.stdin.take().expect("piped");
-        let mut output = Vec::new();
-        std::thread::scope(|scope| {
-            // A program that ends early leaves its input unread; its lines will tell.
-            scope.spawn(move || input.write_all(bytes).ok());
-            child.stdout.take().expect("piped").read_to_end(&mut output)
-        })
-        .map_err(failed)?;
-        child.wait().map_err(failed)?;
-        String::from_utf8(output).map_err(|_| "replay printed other than text".to_string())
+        run_program(&self.program, bytes)
     }
 
     fn difference(&self, case: &Case, expected: &str, given: &str) -> String {
@@ -119,6 +105,26 @@ impl Comparison {
         let fields = show::first_difference(expected, given);
         format!("{at}\n{}{fields}\n{kept}", show::case(case))
     }
+}
+
+/// Runs a program on an input and hands back what it prints.
+pub fn run_program(program: &Path, input: &[u8]) -> Result<String, String> {
+    let failed = |error: std::io::Error| format!("{}: {error}", program.display());
+    let mut child = Command::new(program)
+        .stdin(Stdio::piped())
+        .stdout(Stdio::piped())
+        .spawn()
+        .map_err(failed)?;
+    let mut to = child.stdin.take().expect("piped");
+    let mut output = Vec::new();
+    std::thread::scope(|scope| {
+        // A program that ends early leaves its input unread; its lines will tell.
+        scope.spawn(move || to.write_all(input).ok());
+        child.stdout.take().expect("piped").read_to_end(&mut output)
+    })
+    .map_err(failed)?;
+    child.wait().map_err(failed)?;
+    String::from_utf8(output).map_err(|_| "the program printed other than text".to_string())
 }
 
 /// Writes the case where `oracle/run case` can read it.

@@ -137,6 +137,45 @@ pub fn sharing_a_hub(a: &Mesh, b: &Mesh, random: &mut Random) -> Mesh {
     merged(&union(a, b), random.below(first) as u32, (first + random.below(second)) as u32)
 }
 
+/// Two meshes in one: a face of each is taken out and the rims are sewn together.
+/// The faces have as many corners, and the second's is sewn on from its corner `turn` backwards.
+pub fn sewn(a: &Mesh, from_a: usize, b: &Mesh, from_b: usize, turn: usize) -> Mesh {
+    let both = union(a, b);
+    let mut faces = both.faces();
+    let second = faces.remove(a.face_count() + from_b);
+    let first = faces.remove(from_a);
+    let arity = first.len();
+    let partner = |index: usize| second[(turn + arity - index) % arity];
+    let place = |vertex: u32| (0..arity).find(|index| partner(*index) == vertex);
+    let renamed = |vertex: &u32| place(*vertex).map_or(*vertex, |index| first[index]);
+    let faces: Vec<Face> = faces.iter().map(|face| face.iter().map(renamed).collect()).collect();
+    without_spares(&Mesh::new(&faces, &both.points()))
+}
+
+fn without_spares(mesh: &Mesh) -> Mesh {
+    let used = |vertex: &usize| mesh.corners.contains(&(*vertex as u32));
+    let kept: Vec<usize> = (0..mesh.position_count()).filter(used).collect();
+    let points = mesh.points();
+    let number = |vertex: &u32| kept.binary_search(&(*vertex as usize)).expect("used") as u32;
+    Mesh {
+        offsets: mesh.offsets.clone(),
+        corners: mesh.corners.iter().map(number).collect(),
+        coordinates: kept.iter().flat_map(|vertex| points[*vertex]).collect(),
+    }
+}
+
+/// So many tori sewn together one after the other, one at least.
+pub fn handles(count: usize, random: &mut Random) -> Mesh {
+    let torus = |random: &mut Random| torus(3, random.between(3, 4));
+    let mut mesh = torus(random);
+    for _ in 1..count {
+        let next = torus(random);
+        let faces = (random.below(mesh.face_count()), random.below(next.face_count()));
+        mesh = sewn(&mesh, faces.0, &next, faces.1, random.below(4));
+    }
+    mesh
+}
+
 pub fn with_spares(mesh: &Mesh, count: usize) -> Mesh {
     let mut mesh = mesh.clone();
     mesh.coordinates.extend((0..3 * count).map(|index| index as f32 - 4.0));

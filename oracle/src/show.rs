@@ -1,5 +1,7 @@
 //! Cases and differences as text for a reader.
-use crate::case::Case;
+use crate::case::{Case, Program, Room};
+use crate::extra::step_words;
+use crate::recipe::Step;
 use std::fmt::Write;
 
 /// At most so many items of a list are shown.
@@ -29,8 +31,16 @@ pub fn case(case: &Case) -> String {
     line("corners", joined(&case.mesh.corners, u32::to_string));
     line("coordinates", joined(&case.mesh.coordinates, |number| float(*number)));
     let room = case.room;
-    line("room", format!("{} {} {}", room.offsets, room.corners, room.coordinates));
+    line("room", format!("{:?}", room.lengths()));
     line("fill", case.fill.to_string());
+    if case.function.program() == Program::Rerun {
+        let extra = &case.extra;
+        line("work meshes", format!("{:?}", extra.work.map(Room::lengths)));
+        line("rows", extra.ledger.to_string());
+        let step = |step: &Step| format!("{:?}", step_words(step));
+        line("steps", joined(&extra.steps, step));
+        line("file", joined(&extra.file, |byte| format!("{byte:02x}")));
+    }
     text
 }
 
@@ -51,7 +61,7 @@ pub fn first_difference(expected: &str, given: &str) -> String {
         let (our, their) = (ours.next(), theirs.next());
         if our != their || our.is_none() {
             let (our, their) = (our.unwrap_or("(end)"), their.unwrap_or("(end)"));
-            return format!("  field {field}: expected {our}, replay says {their}");
+            return format!("  field {field}: expected {our}, the program says {their}");
         }
     }
     unreachable!("one of the lines ends")

@@ -260,7 +260,8 @@ pub fn result_sizes(operator: Operator, parameters: &Parameters, mesh: &Mesh) ->
     }
 }
 
-fn picked_faces_and_corners(mesh: &Mesh, parameters: &Parameters) -> (usize, usize) {
+/// How many faces kis picks, and how many corners these have.
+pub fn picked_faces_and_corners(mesh: &Mesh, parameters: &Parameters) -> (usize, usize) {
     let picked =
         mesh.runs().enumerate().filter(|(face, run)| is_picked(mesh, *face, run, parameters));
     picked.fold((0, 0), |(faces, corners), (_, run)| (faces + 1, corners + run.len()))

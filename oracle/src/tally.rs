@@ -72,6 +72,7 @@ fn kind_of(case: &Case, refusal: Refusal) -> Kind {
         6 | 8 | 9 => mesh.corners.len(),
         10 | 11 => mesh.position_count(),
         14 => result_coordinates(case),
+        15..=18 => case.extra.file.len(),
         _ => return Kind::Named(number, place),
     };
     match place as usize {
@@ -87,15 +88,15 @@ fn result_coordinates(case: &Case) -> usize {
             table::result_sizes(operator, &case.parameters, &case.mesh).room().coordinates
         }
         // The size of a step's result isn't known here: no place of it counts as the last.
-        Function::List(_) => usize::MAX,
-        _ => unreachable!("only operators and lists have results"),
+        Function::List(_) | Function::Recipe => usize::MAX,
+        _ => unreachable!("only these have results"),
     }
 }
 
 impl fmt::Display for Tally {
     fn fmt(&self, to: &mut fmt::Formatter) -> fmt::Result {
         for (code, kinds) in &self.0 {
-            let name = Function::or_list(*code).expect("counted").name();
+            let name = Function::from_code(*code).expect("counted").name();
             let counts = kinds.iter().map(|((_, kind), count)| format!("{} {count}", kind.text()));
             writeln!(to, "{code} {name}: {}", counts.collect::<Vec<_>>().join(", "))?;
         }

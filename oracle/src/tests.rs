@@ -3,12 +3,14 @@ use crate::answer::{self, answer};
 use crate::arithmetic;
 use crate::case::{Case, Function, Room};
 use crate::damage;
+use crate::genus::{self, Build};
 use crate::mesh::{Face, Mesh};
 use crate::meshes::AMPLE;
 use crate::numbers;
 use crate::operator::Operator::{self, *};
 use crate::operator::{Parameters, OPERATORS};
 use crate::panel;
+use crate::random::Random;
 use crate::recipe::{self, Lent, List, RefusedAt, Step};
 use crate::rust_side;
 use crate::shapes;
@@ -526,4 +528,25 @@ fn files_that_are_refused() {
     assert_eq!(panel::read(&[0; 13]), Err(refusal(18, 12)));
     // Small arities, high corners and bits of no number are no error of the file.
     assert!(panel::read(&file(&[0, 1, 0x7FC0_0000, 0, 0, 2, 0, 1, 7])).is_ok());
+}
+
+#[test]
+fn parts_handles_hubs_and_spares() {
+    let build = |mesh: &Mesh| genus::build(mesh);
+    let plain = Build { parts: 1, handles: 0, pinched: 0, spare: 0 };
+    assert_eq!(build(&shapes::cube()), plain);
+    assert_eq!(build(&shapes::pillow(5)), plain);
+    assert_eq!(build(&Mesh::new(&[], &[])), Build { parts: 0, ..plain });
+    assert_eq!(build(&shapes::three_hexagons()), Build { handles: 1, ..plain });
+    let mut random = Random::new(0);
+    for handles in 1..7 {
+        let mesh = shapes::handles(handles, &mut random);
+        assert_eq!(table::check_closed(&mesh), Ok(()));
+        assert_eq!(build(&mesh), Build { handles, ..plain });
+    }
+    let apart = shapes::union(&shapes::cube(), &shapes::torus(3, 3));
+    assert_eq!(build(&apart), Build { parts: 2, handles: 1, ..plain });
+    let hub = shapes::merged(&apart, 0, 8);
+    assert_eq!(build(&hub), Build { parts: 2, handles: 1, pinched: 1, ..plain });
+    assert_eq!(build(&shapes::with_spares(&hub, 3)), Build { spare: 3, ..build(&hub) });
 }

@@ -1,46 +1,17 @@
 // The codes 1 to 11: the operators, called as the words of the header say.
 
-ghost use Prim.Native.Nat.{_<_, _≤_};
+ghost use Prim.Native.Nat.{_≤_};
 ghost use lib.ListN.{length};
-use crate::header::Header;
-use crate::input::float_of;
-use crate::lent::fill_mesh;
-use crate::line::Text;
-use crate::line::put_mesh;
-use crate::line::put_three;
+use cases::answers::put_answer;
+use cases::flags::height_of;
+use cases::flags::mask_of;
+use cases::flags::ratio_of;
+use cases::flags::set;
+use cases::header::Header;
+use cases::lent::fill_mesh;
+use cases::line::Text;
+use cases::line::put_mesh;
 use engine::Answer;
-use operators::Number;
-use picks::Mask;
-
-// Whether a bit of the flags is set; the bit is told by its value.
-fn set(flags: u32, bit: u32) -> bool
-    requires { ⌜ 0 < bit ⌝ }
-{
-    flags / bit % 2 == 1
-}
-
-fn number_of(given: bool, bits: u32) -> Number {
-    if given {
-        return Number::Given(float_of(bits));
-    }
-    Number::Absent
-}
-
-fn ratio_of(h: Header) -> Number {
-    number_of(set(h.flags, 1), h.ratio)
-}
-
-fn height_of(h: Header) -> Number {
-    number_of(set(h.flags, 2), h.height)
-}
-
-fn mask_of(flags: u32) -> Mask {
-    Mask {
-        arities: set(flags, 4),
-        numbers: set(flags, 8),
-        regular: set(flags, 16),
-    }
-}
 
 // 3 dual, 8 reflect, 9 reverse, 11 triangulate: the operators without a number.
 fn plain(
@@ -127,24 +98,6 @@ fn called(
         );
     }
     by_numbers(h, offsets, corners, coords, xo, xc, xx)
-}
-
-// The number, place and step of a refusal, then the counts of the result; zeros for what is not.
-fn put_answer(text: &mut Text, answer: Answer) -> usize {
-    match answer {
-        Answer::Done(counts) => {
-            let at = put_three(text, 0, 0, 0, 0);
-            put_three(text, at, counts.v, counts.e, counts.f)
-        }
-        Answer::Refused {
-            number,
-            place,
-            step,
-        } => {
-            let at = put_three(text, 0, number, place, step);
-            put_three(text, at, 0, 0, 0)
-        }
-    }
 }
 
 // The lent mesh is printed whole, with what the call left alone.

@@ -2,13 +2,13 @@
 
 ghost use Prim.Native.Nat.{_≤_};
 ghost use lib.ListN.{length};
-use crate::header::Header;
-use crate::lent::fill_pairs;
-use crate::line::Text;
-use crate::line::put_name;
-use crate::line::put_number;
-use crate::line::put_pairs;
-use crate::line::put_three;
+use cases::header::Header;
+use cases::lent::fill_pairs;
+use cases::line::Text;
+use cases::line::put_name;
+use cases::line::put_number;
+use cases::line::put_pairs;
+use cases::line::put_three;
 use mesh::Listing;
 use mesh::Verdict;
 

@@ -5,12 +5,12 @@ ghost use mathlib.Core.Bool.{true};
 ghost use Prim.Native.Nat.{_≤_};
 ghost use lib.ListN.{length};
 ghost use Rattle.point.specs.Face.{InReach};
-use crate::header::Header;
-use crate::line::Text;
-use crate::line::put_bits;
-use crate::line::put_name;
-use crate::line::put_number;
-use crate::line::put_point;
+use cases::header::Header;
+use cases::line::Text;
+use cases::line::put_bits;
+use cases::line::put_name;
+use cases::line::put_number;
+use cases::line::put_point;
 
 // The root of each pattern.
 pub fn roots(text: &mut Text, h: Header, bits: &[u32]) -> usize

@@ -3,67 +3,32 @@
 
 mod calls;
 mod checks;
-mod header;
-mod input;
 mod leaves;
-mod lent;
-mod line;
 
-ghost use Rattle.replay.specs.Header.{Within};
+ghost use Rattle.cases.specs.Header.{Within};
 use calls::operator;
+use cases::answers::bad_case;
+use cases::header::Header;
+use cases::header::header_of;
+use cases::header::within;
+use cases::input::Block;
+use cases::input::floats_of;
+use cases::input::read_front;
+use cases::line::Text;
+use cases::line::end;
+use cases::lists::Bits;
+use cases::lists::Coords;
+use cases::lists::Numbers;
+use cases::lists::read_lists;
 use checks::checked;
 use checks::edges;
-use header::Header;
-use header::header_of;
-use header::within;
-use input::Block;
-use input::floats_of;
-use input::read_front;
-use input::read_list;
 use leaves::one_face;
 use leaves::roots;
-use line::Text;
-use line::end;
-use line::put_name;
-
-// The largest lists of a case.
-type Numbers = [u32; 65536];
-
-type Bits = [u32; 196608];
-
-type Coords = [f32; 196608];
 
 type Pairs = [[u32; 2]; 65536];
 
 fn known(code: u32) -> bool {
     1 <= code && code <= 11 || 20 <= code && code <= 26
-}
-
-// The lists of a case; whether they were all there.
-fn read_lists(
-    h: Header,
-    block: &mut Block,
-    offsets: &mut Numbers,
-    corners: &mut Numbers,
-    bits: &mut Bits,
-    arities: &mut Numbers,
-    faces: &mut Numbers,
-) -> bool
-    requires { ⌜ Within h ⌝ }
-{
-    if !read_list(block, offsets, h.offsets) {
-        return false;
-    }
-    if !read_list(block, corners, h.corners) {
-        return false;
-    }
-    if !read_list(block, bits, h.coords) {
-        return false;
-    }
-    if !read_list(block, arities, h.arities) {
-        return false;
-    }
-    read_list(block, faces, h.faces)
 }
 
 // Puts the line of a case together; where it ends.
@@ -107,13 +72,6 @@ fn answer(
         return checked(text, h, offsets, corners, coords);
     }
     edges(text, h, offsets, corners, coords, pairs)
-}
-
-// The last line, for what is no case; nothing follows it.
-fn bad_case(text: &mut Text) -> bool {
-    let at = put_name(text, 0, b"bad case");
-    end(text, at);
-    false
 }
 
 // One case, read and answered; whether another may follow.

@@ -1,0 +1,23 @@
+//! Times of the library, of the Rust text and of C by hand, each on one thread, as tables in markdown.
+#![allow(dead_code)]
+
+#[path = "../../oracle/src/mesh.rs"]
+mod mesh;
+#[path = "../../oracle/src/random.rs"]
+mod random;
+#[path = "../../oracle/src/shapes.rs"]
+mod shapes;
+
+mod byhand;
+mod geodesic;
+mod operators;
+mod sides;
+mod tables;
+
+/// Deep enough for the Rust text's recursion round a vertex.
+const STACK: usize = 1 << 30;
+
+fn main() {
+    let pool = rayon::ThreadPoolBuilder::new().num_threads(1).stack_size(STACK).build().expect("one thread");
+    pool.install(tables::print);
+}

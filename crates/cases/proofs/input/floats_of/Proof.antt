@@ -1,0 +1,63 @@
+use mathlib.Core.Path.{_≡_}
+use lib.ListN.{length}
+use Prim.Native.Nat.{_≤_, _-_}
+use borrow.Author.Needs.{needs}
+use Rattle.cases.proofs.input.floats_of.Statement.{statement}
+use Rattle.cases.proofs.input.floats_of.Tie as tie
+
+abbrev Inv-loop : tie.InvT-loop
+Inv-loop bits list₀ n i₀ list i = (i ≤ n) × (length list ≡ length (list₀))
+
+abbrev μ-loop : tie.MeasureT-loop
+μ-loop bits list₀ n i₀ list i = n - i
+
+loop-holds : tie.Need-loop-holds Inv-loop μ-loop
+loop-holds c = search needs
+
+mul-float-of : tie.Need-mul-float-of Inv-loop μ-loop
+mul-float-of c = search needs
+
+shared-slice-read-float-of : tie.Need-shared-slice-read-float-of Inv-loop μ-loop
+shared-slice-read-float-of c = search needs
+
+float-of-requires : tie.Need-float-of-requires Inv-loop μ-loop
+float-of-requires c κs = search needs
+
+mul-list : tie.Need-mul-list Inv-loop μ-loop
+mul-list c = search needs
+
+slice-write-list : tie.Need-slice-write-list Inv-loop μ-loop
+slice-write-list c = search needs
+
+add-i : tie.Need-add-i Inv-loop μ-loop
+add-i c = search needs
+
+loop-less : tie.Need-loop-less Inv-loop μ-loop
+loop-less c = search needs
+
+loop-again : tie.Need-loop-again Inv-loop μ-loop
+loop-again c = search needs
+
+same-length : tie.Need-same-length Inv-loop μ-loop
+same-length c = search needs
+
+returns : tie.Need-returns Inv-loop μ-loop
+returns c = search needs
+
+pub floats-of-spec : {M : Type 1} → statement M
+floats-of-spec =
+    tie.close
+    (tie.spec
+    Inv-loop
+    μ-loop
+    loop-holds
+    mul-float-of
+    shared-slice-read-float-of
+    float-of-requires
+    mul-list
+    slice-write-list
+    add-i
+    loop-less
+    loop-again
+    same-length
+    returns)

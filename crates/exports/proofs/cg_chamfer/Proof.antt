@@ -1,0 +1,37 @@
+use Rattle.exports.specs.Words.{told}
+use borrow.Author.Needs.{needs}
+use Rattle.exports.proofs.cg_chamfer.Statement.{statement}
+use Rattle.exports.proofs.cg_chamfer.Tie as tie
+
+optional-requires : tie.Need-optional-requires
+optional-requires c κs = search needs
+
+chamfer-requires : tie.Need-chamfer-requires
+chamfer-requires c κs = search needs
+
+spell-requires : tie.Need-spell-requires
+spell-requires c κs = search needs
+
+same-length : tie.Need-same-length
+same-length c = search needs
+
+same-length-2 : tie.Need-same-length-2
+same-length-2 c = search needs
+
+same-length-3 : tie.Need-same-length-3
+same-length-3 c = search needs
+
+returns : tie.Need-returns
+returns c = told (rw (c .before .before .before .before .before .before .before .before .before .before .before .optional .ensures) at (c .before .before .before .before .before .before .before .chamfer .ensures)) (c .spell .ensures)
+
+pub cg-chamfer-spec : {M : Type 1} → statement M
+cg-chamfer-spec =
+    tie.close
+    (tie.spec
+    optional-requires
+    chamfer-requires
+    spell-requires
+    same-length
+    same-length-2
+    same-length-3
+    returns)

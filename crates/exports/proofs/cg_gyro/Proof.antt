@@ -1,0 +1,41 @@
+use Rattle.exports.specs.Words.{told}
+use borrow.Author.Needs.{needs}
+use Rattle.exports.proofs.cg_gyro.Statement.{statement}
+use Rattle.exports.proofs.cg_gyro.Tie as tie
+
+optional-requires : tie.Need-optional-requires
+optional-requires c κs = search needs
+
+optional-requires-2 : tie.Need-optional-requires-2
+optional-requires-2 c κs = search needs
+
+gyro-requires : tie.Need-gyro-requires
+gyro-requires c κs = search needs
+
+spell-requires : tie.Need-spell-requires
+spell-requires c κs = search needs
+
+same-length : tie.Need-same-length
+same-length c = search needs
+
+same-length-2 : tie.Need-same-length-2
+same-length-2 c = search needs
+
+same-length-3 : tie.Need-same-length-3
+same-length-3 c = search needs
+
+returns : tie.Need-returns
+returns c = told (rw (c .before .before .before .before .before .before .before .before .before .before .before .before .optional .ensures, c .before .before .before .before .before .before .before .before .before .before .before .optional2 .ensures) at (c .before .before .before .before .before .before .before .gyro .ensures)) (c .spell .ensures)
+
+pub cg-gyro-spec : {M : Type 1} → statement M
+cg-gyro-spec =
+    tie.close
+    (tie.spec
+    optional-requires
+    optional-requires-2
+    gyro-requires
+    spell-requires
+    same-length
+    same-length-2
+    same-length-3
+    returns)
