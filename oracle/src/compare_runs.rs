@@ -2,6 +2,7 @@
 use crate::answer::{answer, Outcome};
 use crate::case::{Case, Function, Program};
 use crate::commands::{demand, Done};
+use crate::damage;
 use crate::mesh::Mesh;
 use crate::meshes::AMPLE;
 use crate::random::Random;
@@ -18,7 +19,7 @@ pub fn lists(count: usize) -> Done {
     let mut random = Random::new(6);
     let mut comparison = Comparison::new(Program::Rerun)?;
     let mut by_text = 0;
-    for case in over_a_limit_between_steps() {
+    for case in over_a_limit() {
         comparison.add(case)?;
     }
     for (list, index) in LISTS.iter().cycle().zip(0..count) {
@@ -52,9 +53,13 @@ fn same_as_the_text(list: List, case: &Case) -> Done {
     }
 }
 
-/// The second ambo of an expand has a result over a limit.
-fn over_a_limit_between_steps() -> Vec<Case> {
-    let meshes = [shapes::torus(62, 65), shapes::union(&shapes::torus(61, 62), &shapes::cube())];
+/// The second ambo of an expand has a result over a limit; or the mesh itself is over one.
+fn over_a_limit() -> Vec<Case> {
+    let meshes = [
+        shapes::torus(62, 65),
+        shapes::union(&shapes::torus(61, 62), &shapes::cube()),
+        damage::one_face(60_001),
+    ];
     let case = |mesh| {
         let mut case = Case::new(Function::List(List::Expand), mesh);
         case.extra.work = [AMPLE; 2];
