@@ -9,6 +9,7 @@ use crate::numbers;
 use crate::operator::{Operator, OPERATORS};
 use crate::random::Random;
 use crate::recipe::{self, Lent, LISTS};
+use crate::runs;
 use crate::rust_side;
 use crate::table;
 use std::fmt::Debug;
@@ -115,8 +116,12 @@ fn lists(random: &mut Random) -> Result<bool, String> {
 }
 
 fn streams(random: &mut Random) -> Result<bool, String> {
-    let operator = random.pick(&OPERATORS);
-    let words = calls::likely_refused(operator, random, 60).words();
+    let case = match random.below(3) {
+        0 => runs::recipe_likely_refused(random, 30),
+        1 => runs::list_likely_refused(random.pick(&LISTS), random, 30),
+        _ => calls::likely_refused(random.pick(&OPERATORS), random, 60),
+    };
+    let words = case.words();
     let read = Case::take(&mut words.as_slice()).map(|case| case.map(|case| case.words()));
-    equal(read, Ok(Some(words.clone())), &operator)
+    equal(read, Ok(Some(words.clone())), &case)
 }

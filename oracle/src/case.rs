@@ -143,9 +143,9 @@ const FACES: u32 = 8;
 const REGULAR: u32 = 16;
 const LONGER: u32 = 32;
 
-const HEADER: usize = 14;
-const NUMBERS_AT_MOST: u32 = Room::MOST.offsets as u32;
-const COORDINATES_AT_MOST: u32 = Room::MOST.coordinates as u32;
+pub const HEADER: usize = 14;
+pub const NUMBERS_AT_MOST: u32 = Room::MOST.offsets as u32;
+pub const COORDINATES_AT_MOST: u32 = Room::MOST.coordinates as u32;
 
 /// A header over a limit, a case cut short or an unknown code.
 #[derive(Debug, PartialEq)]

@@ -100,15 +100,20 @@ pub fn compare_checks(meshes: usize) -> Done {
     }
     println!("{}", comparison.finish()?);
     demand(&comparison, [1, 2, 4, 5, 6, 7, 8, 9, 10, 11], 500)?;
-    compare_bad_streams(&comparison)
+    let good = Case::new(Function::CheckClosed, shapes::tetrahedron());
+    compare_bad_streams(&comparison, good, &[0, 12, 19, 27, u32::MAX], &COUNTS)
 }
 
-/// Streams that end in a bad case after a good one.
-fn compare_bad_streams(comparison: &Comparison) -> Done {
-    let good = Case::new(Function::CheckClosed, shapes::tetrahedron());
+/// Streams that end in a bad case after a good one: cut, of an unknown code, over a limit.
+pub fn compare_bad_streams(
+    comparison: &Comparison,
+    good: Case,
+    unknown: &[u32],
+    counts: &[(usize, u32)],
+) -> Done {
     let expected = format!("{}\nbad case\n", answer(&good).line);
     let good = to_bytes(&good.words());
-    let streams = bad_cases(&good);
+    let streams = bad_cases(&good, unknown, counts);
     for bad in &streams {
         let given = comparison.run(&[good.as_slice(), bad].concat())?;
         if given != expected {
@@ -120,15 +125,15 @@ fn compare_bad_streams(comparison: &Comparison) -> Done {
     Ok(())
 }
 
-fn bad_cases(good: &[u8]) -> Vec<Vec<u8>> {
+fn bad_cases(good: &[u8], unknown: &[u32], counts: &[(usize, u32)]) -> Vec<Vec<u8>> {
     let with_word = |index: usize, word: u32| {
         let mut bytes = good.to_vec();
         bytes[4 * index..4 * index + 4].copy_from_slice(&word.to_le_bytes());
         bytes
     };
     let cut = (1..good.len()).map(|length| good[..length].to_vec());
-    let unknown = [0, 12, 19, 27, u32::MAX].map(|code| with_word(0, code));
-    let over = COUNTS
+    let unknown = unknown.iter().map(|code| with_word(0, *code));
+    let over = counts
         .iter()
         .flat_map(|(index, most)| [most + 1, u32::MAX].map(|count| with_word(*index, count)));
     cut.chain(unknown).chain(over).collect()

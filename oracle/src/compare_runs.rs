@@ -1,8 +1,9 @@
 //! Lists and recipes at scale, against the Rust text and the second reading.
 use crate::answer::{answer, Outcome};
-use crate::case::{Case, Function, Program};
-use crate::commands::{demand, Done};
+use crate::case::{Case, Function, Program, COUNTS};
+use crate::commands::{compare_bad_streams, demand, Done};
 use crate::damage;
+use crate::extra;
 use crate::mesh::Mesh;
 use crate::meshes::AMPLE;
 use crate::random::Random;
@@ -19,8 +20,12 @@ pub fn lists(count: usize) -> Done {
     let mut random = Random::new(6);
     let mut comparison = Comparison::new(Program::Rerun)?;
     let mut by_text = 0;
-    for case in over_a_limit() {
+    for case in over_a_limit_between_steps() {
         comparison.add(case)?;
+    }
+    for list in LISTS {
+        let mesh = damage::over_limits(&mut random);
+        comparison.add(Case::new(Function::List(list), mesh))?;
     }
     for (list, index) in LISTS.iter().cycle().zip(0..count) {
         let case = if index / LISTS.len() % 2 == 0 {
@@ -53,13 +58,9 @@ fn same_as_the_text(list: List, case: &Case) -> Done {
     }
 }
 
-/// The second ambo of an expand has a result over a limit; or the mesh itself is over one.
-fn over_a_limit() -> Vec<Case> {
-    let meshes = [
-        shapes::torus(62, 65),
-        shapes::union(&shapes::torus(61, 62), &shapes::cube()),
-        damage::one_face(60_001),
-    ];
+/// The second ambo of an expand has a result over a limit.
+fn over_a_limit_between_steps() -> Vec<Case> {
+    let meshes = [shapes::torus(62, 65), shapes::union(&shapes::torus(61, 62), &shapes::cube())];
     let case = |mesh| {
         let mut case = Case::new(Function::List(List::Expand), mesh);
         case.extra.work = [AMPLE; 2];
@@ -82,5 +83,9 @@ pub fn recipes(count: usize) -> Done {
         comparison.add(case)?;
     }
     println!("{}", comparison.finish()?);
-    demand(&comparison, [1, 2, 3, 4, 5, 6, 7, 8, 9, 10, 11, 13, 14], 1)
+    demand(&comparison, [1, 2, 3, 4, 5, 6, 7, 8, 9, 10, 11, 13, 14], 1)?;
+    let mut good = runs::recipe_likely_done(2, &mut random, 12);
+    good.extra.file = vec![1, 2, 3, 4, 5];
+    let counts = [&COUNTS[..], &extra::COUNTS].concat();
+    compare_bad_streams(&comparison, good, &[0, 11, 26, 30, 43, u32::MAX], &counts)
 }

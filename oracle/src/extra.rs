@@ -1,5 +1,5 @@
 //! What a case of `rerun` has beside a case of `replay`: its words, its steps and its file.
-use crate::case::{take, BadCase, Room};
+use crate::case::{take, BadCase, Room, COORDINATES_AT_MOST, HEADER, NUMBERS_AT_MOST};
 use crate::operator::{Operator, Parameters};
 use crate::recipe::Step;
 
@@ -8,6 +8,19 @@ pub const WORDS: usize = 10;
 const STEPS_AT_MOST: u32 = 32;
 const ROWS_AT_MOST: u32 = 64;
 const BYTES_AT_MOST: u32 = 16_384;
+
+/// The words that count something, each with the most it may say.
+pub const COUNTS: [(usize, u32); 9] = [
+    (14, NUMBERS_AT_MOST),
+    (15, NUMBERS_AT_MOST),
+    (16, COORDINATES_AT_MOST),
+    (17, NUMBERS_AT_MOST),
+    (18, NUMBERS_AT_MOST),
+    (19, COORDINATES_AT_MOST),
+    (20, ROWS_AT_MOST),
+    (21, STEPS_AT_MOST),
+    (22, BYTES_AT_MOST),
+];
 
 const RATIO: u32 = 1;
 const HEIGHT: u32 = 2;
@@ -42,12 +55,7 @@ impl Extra {
 
     /// What the words after the header say; the steps and the file are still to be read.
     pub fn from_header(words: &[u32]) -> Result<(Extra, usize, usize), BadCase> {
-        let numbers = Room::MOST.offsets as u32;
-        let coordinates = Room::MOST.coordinates as u32;
-        let room = [numbers, numbers, coordinates];
-        let counts = [ROWS_AT_MOST, STEPS_AT_MOST, BYTES_AT_MOST];
-        let most = [&room[..], &room, &counts].concat();
-        if words.iter().zip(most).any(|(word, most)| *word > most) {
+        if COUNTS.iter().any(|(index, most)| words[index - HEADER] > *most) {
             return Err(BadCase);
         }
         let count = |index: usize| words[index] as usize;
