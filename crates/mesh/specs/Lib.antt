@@ -13,3 +13,4 @@ pub mod Wheel
 pub mod Ranks
 pub mod Pieces
 pub mod Scan
+pub mod Twice

@@ -4,11 +4,12 @@ ghost use mathlib.Core.Path.{_≡_};
 ghost use Prim.Native.Nat.{_+_, _<_, _≤_};
 ghost use lib.ListN.{length};
 ghost use lib.Seq.{sets};
-ghost use Rattle.slices.specs.First.{first, count, isAt};
+ghost use Rattle.slices.specs.First.{first, any, count, isAt};
 ghost use Rattle.slices.specs.Lists.{each};
 ghost use Rattle.mesh.specs.Mesh.{faces, pairOf, turnedOf, orderedOf, samePair, nextIn, faceAfter, window, windowIs, mate, faceOf, prevIn, turn, next, prev};
 ghost use Rattle.mesh.specs.Corners.{Paired};
 ghost use Rattle.mesh.specs.Scan.{Skipped, Behind};
+ghost use Rattle.mesh.specs.Twice.{Inside, Unmarked, inWindow, again};
 ghost use Rattle.mesh.specs.Edges.{Faced, Sound, edge, up, rank, edges};
 ghost use Rattle.mesh.specs.EdgeList.{rise, listing, answerOf, listAfter};
 ghost use Rattle.mesh.specs.Shape.{Shaped, In, Full, Limited};
@@ -164,26 +165,95 @@ fn seen_at(run: &[u32]) -> usize
     i
 }
 
+// Whether vertex `v` is one of the `width` vertices from `low` on.
+fn in_window(v: usize, low: usize, width: usize) -> bool
+    ensures { λ r. ⌜ r ≡ inWindow low width v ⌝ }
+{
+    if v < low {
+        return false;
+    }
+    v - low < width
+}
+
+// Whether one of the vertices from `low` on, a mark for each, stands twice in a face's run of corners.
+fn marked_twice(run: &[u32], low: usize, marks: &mut [bool]) -> bool
+    requires { ⌜ Unmarked (now marks) ⌝ }
+    ensures { λ r. ⌜ r ≡ any (again low (length (now (marks .entry))) (now (run .entry))) (length (now (run .entry))) ⌝ }
+{
+    let mut i = 0;
+    while i < run.len() {
+        let v = slices::look(run, i);
+        if in_window(v, low, marks.len()) {
+            if marks[v - low] {
+                return true;
+            }
+            marks[v - low] = true;
+        }
+        i += 1;
+    }
+    false
+}
+
+// Whether one of the 4096 vertices from `low` on stands twice in a face's run of corners.
+fn twice_from(run: &[u32], low: usize) -> bool
+    ensures { λ r. ⌜ r ≡ any (again low 4096 (now (run .entry))) (length (now (run .entry))) ⌝ }
+{
+    let mut marks = [false; 4096];
+    marked_twice(run, low, &mut marks)
+}
+
+// Whether a vertex stands twice in a long run of corners: a walk for each 4096 vertices.
+fn twice_in_long(run: &[u32], positions: usize) -> bool
+    requires { ⌜ Inside (now run) positions ⌝ }
+    requires { ⌜ positions ≤ limit ⌝ }
+    ensures { λ r. ⌜ r ≡ any (seen (now (run .entry))) (length (now (run .entry))) ⌝ }
+{
+    let mut low = 0;
+    while low < positions {
+        if twice_from(run, low) {
+            return true;
+        }
+        low += 4096;
+    }
+    false
+}
+
+// Whether a vertex stands twice in a face's run of corners.
+fn twice_in(run: &[u32], positions: usize) -> bool
+    requires { ⌜ Inside (now run) positions ⌝ }
+    requires { ⌜ positions ≤ limit ⌝ }
+    ensures { λ r. ⌜ r ≡ any (seen (now (run .entry))) (length (now (run .entry))) ⌝ }
+{
+    if 256 < run.len() {
+        return twice_in_long(run, positions);
+    }
+    seen_at(run) < run.len()
+}
+
 // Whether face `f` has a vertex twice.
-fn repeats_in(offsets: &[u32], corners: &[u32], f: usize) -> bool
+fn repeats_in(offsets: &[u32], corners: &[u32], positions: usize, f: usize) -> bool
     requires { ⌜ Shaped (now offsets) (length (now corners)) ⌝ }
+    requires { ⌜ Inside (now corners) positions ⌝ }
+    requires { ⌜ positions ≤ limit ⌝ }
     requires { ⌜ f < faces (now offsets) ⌝ }
     ensures { λ r. ⌜ r ≡ repeats (now (offsets .entry)) (now (corners .entry)) f ⌝ }
 {
     let a = slices::wide(offsets[f]);
     let b = slices::wide(offsets[f + 1]);
     let run = &corners[a..b];
-    seen_at(run) < run.len()
+    twice_in(run, positions)
 }
 
 // Test 7: the lowest face with a vertex twice.
-fn repeat_at(offsets: &[u32], corners: &[u32]) -> usize
+fn repeat_at(offsets: &[u32], corners: &[u32], positions: usize) -> usize
     requires { ⌜ Shaped (now offsets) (length (now corners)) ⌝ }
+    requires { ⌜ Inside (now corners) positions ⌝ }
+    requires { ⌜ positions ≤ limit ⌝ }
     ensures { λ r. ⌜ r ≡ first (repeats (now (offsets .entry)) (now (corners .entry))) (faces (now (offsets .entry))) ⌝ }
 {
     let mut f = 0;
     while f + 1 < offsets.len() {
-        if repeats_in(offsets, corners, f) {
+        if repeats_in(offsets, corners, positions, f) {
             return f;
         }
         f += 1;
@@ -553,7 +623,7 @@ pub fn check_faces(offsets: &[u32], corners: &[u32], coords: &[f32]) -> Verdict
             place: outside as u32,
         };
     }
-    let twice = repeat_at(offsets, corners);
+    let twice = repeat_at(offsets, corners, coords.len() / 3);
     if twice < offsets.len() - 1 {
         return Verdict::Bad {
             number: 7,

@@ -2,6 +2,7 @@ use Prim.Native.Nat.{_-_}
 use mathlib.Core.Bool.{not}
 use borrow.Author.Needs.{needs}
 use Rattle.mesh.specs.Tests.{stop, pass, clear, faceTests}
+use Rattle.mesh.specs.Twice.{passed-outside}
 use Rattle.mesh.proofs.check_faces.Statement.{statement}
 use Rattle.mesh.proofs.check_faces.Tie as tie
 
@@ -45,7 +46,9 @@ returns-3 c =
     (stop _ _ _ (c .before .outside-at .ensures) (c .if3 .taken)))
 
 repeat-at-requires : tie.Need-repeat-at-requires
-repeat-at-requires c κs = search needs
+repeat-at-requires c κs =
+    let p = c .before .before .before .before .before .before .before .before .before .pre in
+    (p .0, (passed-outside (c .before .before .before .before .before .before .before .before .before .args .corners .now) _ (rw (c .before .outside-at .ensures) at (c .if3 .left)), p .1 .positions-fit))
 
 sub-if4 : tie.Need-sub-if4
 sub-if4 c = search needs
