@@ -9,7 +9,7 @@ use native.Mathlib.Nat.{le-refl, le-antisymm, le-of-suc-le-suc, lt-of-not-le, lt
 use lib.ListN.{length, getD}
 use lib.Dec.{eqb}
 use borrow.Author.Tests.{lt-ltb, ltb-true, ltb-false, eqb-true, eq-eqb, not-false}
-use Rattle.slices.specs.First.{first-is, none, nowhere, not-any, at-or-before}
+use Rattle.slices.specs.First.{first-is, none, nowhere, not-any, at-or-before, both}
 use Rattle.mesh.specs.Mesh.{faces, next, prev, window, windowIs, mate, turn, pairOf, turnedOf}
 use Rattle.mesh.specs.Tests.{alone, met, repeats, verdict, tests, faceTests, edgeTests, passed, pass, clear, tests-good}
 use lib.Ieee.{Float}
@@ -23,10 +23,6 @@ from o k c = getD k c 0
 
 abbrev pub to : List ℕ → List ℕ → ℕ → ℕ
 to o k c = getD k (next o c) 0
-
-both : (p q : Bool) → p && q ≡ true → (p ≡ true) × (q ≡ true)
-both true q e = (refl, e)
-both false q e = absurd (true≢false (sym e))
 
 pub is-window : (o k : List ℕ) (a b c : ℕ) → windowIs o k (pairOf a b) c ≡ true → (from o k c ≡ a) × (to o k c ≡ b)
 unfolding window

@@ -12,7 +12,7 @@ use lib.Seq.{getD-set-same, getD-set-other, getD-take, getD-drop}
 use lib.Dec.{ltb, leb, eqb}
 use borrow.Author.Tests.{ltb-true, ltb-false, lt-ltb, le-ltb, le-leb, lt-leb, leb-true, leb-false, eqb-true, eqb-false, eq-eqb, ne-eqb}
 use borrow.Author.Count.{below-more}
-use Rattle.slices.specs.First.{first, any, isAt, first-is, none, nowhere, at-or-before, lt-or-le, Searched, begun, onward}
+use Rattle.slices.specs.First.{first, any, isAt, first-is, none, nowhere, at-or-before, lt-or-le, Searched, begun, onward, both}
 use Rattle.mesh.specs.Tests.{seen, outside}
 
 -- each number is below v
@@ -70,10 +70,6 @@ window-holds : (low w d : ℕ) → d < w → inWindow low w (low + d) ≡ true
 window-holds low w d h =
     let e : low + d - low ≡ d = omega arith in
     sym (in-window low w (low + d) (omega arith)) ∙ lt-ltb (low + d - low) w (omega arith)
-
-both : (a b : Bool) → a && b ≡ true → (a ≡ true) × (b ≡ true)
-both true b e = (refl, e)
-both false b e = absurd (true≢false (sym e))
 
 pub window-from : (low w x : ℕ) → inWindow low w x ≡ true → (low ≤ x) × (x - low < w)
 unfolding inWindow

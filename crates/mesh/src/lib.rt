@@ -8,7 +8,7 @@ ghost use Rattle.slices.specs.First.{first, any, count, isAt};
 ghost use Rattle.slices.specs.Lists.{each};
 ghost use Rattle.mesh.specs.Mesh.{faces, pairOf, turnedOf, orderedOf, samePair, nextIn, faceAfter, window, windowIs, mate, faceOf, prevIn, turn, next, prev};
 ghost use Rattle.mesh.specs.Corners.{Paired};
-ghost use Rattle.mesh.specs.Scan.{Skipped, Behind};
+ghost use Rattle.mesh.specs.Scan.{Skipped, noneIs, Rising, Behind};
 ghost use Rattle.mesh.specs.Twice.{Inside, Unmarked, inWindow, again};
 ghost use Rattle.mesh.specs.Edges.{Faced, Sound, edge, up, rank, edges};
 ghost use Rattle.mesh.specs.EdgeList.{rise, listing, answerOf, listAfter};
@@ -337,13 +337,50 @@ fn window_is(offsets: &[u32], corners: &[u32], e: [u32; 2], f: usize, c: usize) 
     same(window_in(offsets, corners, f, c), e)
 }
 
+// Whether none of four numbers is `v`.
+fn none_is(v: u32, p: u32, q: u32, r: u32, s: u32) -> bool
+    ensures { λ t. ⌜ t ≡ noneIs v p q r s ⌝ }
+{
+    if p == v {
+        return false;
+    }
+    if q == v {
+        return false;
+    }
+    if r == v {
+        return false;
+    }
+    s != v
+}
+
+// Past corners from `from` on that are not vertex `v`, four at a time, and not past `stop`.
+fn leap(corners: &[u32], v: u32, from: usize, stop: usize) -> usize
+    requires { ⌜ from ≤ stop ⌝ }
+    requires { ⌜ stop ≤ length (now corners) ⌝ }
+    ensures { λ r. ⌜ Skipped (isAt (now (corners .entry)) v) stop from r ⌝ }
+{
+    let mut c = from;
+    while 4 <= stop - c {
+        let p = slices::pick(corners, c);
+        let q = slices::pick(corners, c + 1);
+        let r = slices::pick(corners, c + 2);
+        let s = slices::pick(corners, c + 3);
+        if none_is(v, p, q, r, s) {
+            c += 4;
+        } else {
+            return c;
+        }
+    }
+    c
+}
+
 // The first corner from `from` on and below `stop` that is vertex `v`; `stop` where there is none.
 fn starts_at(corners: &[u32], v: u32, from: usize, stop: usize) -> usize
     requires { ⌜ from ≤ stop ⌝ }
     requires { ⌜ stop ≤ length (now corners) ⌝ }
     ensures { λ r. ⌜ Skipped (isAt (now (corners .entry)) v) stop from r ⌝ }
 {
-    let mut c = from;
+    let mut c = leap(corners, v, from, stop);
     while c < stop {
         if corners[c] == v {
             return c;
@@ -368,6 +405,32 @@ fn face_from(offsets: &[u32], f: usize, c: usize) -> usize
     g
 }
 
+// A face from `f` on that is not past the face of corner `c`: faces are passed over eight at a time.
+fn pass_faces(offsets: &[u32], f: usize, c: usize) -> usize
+    requires { ⌜ Rising (now offsets) ⌝ }
+    requires { ⌜ Behind (now offsets) c f ⌝ }
+    ensures { λ r. ⌜ Behind (now (offsets .entry)) c r ⌝ }
+{
+    let mut g = f;
+    while g + 8 < offsets.len() {
+        if c < slices::look(offsets, g + 8) {
+            return g;
+        }
+        g += 8;
+    }
+    g
+}
+
+// The face of corner `c` of a mesh, found from face `f` on.
+fn face_on(offsets: &[u32], f: usize, c: usize) -> usize
+    requires { ⌜ Rising (now offsets) ⌝ }
+    requires { ⌜ Behind (now offsets) c f ⌝ }
+    ensures { λ r. ⌜ r ≡ faceOf (now (offsets .entry)) c ⌝ }
+{
+    let g = pass_faces(offsets, f, c);
+    face_from(offsets, g, c)
+}
+
 // The lowest corner below `stop` whose directed edge is `e`: only at corners where `e` starts the rest is looked at.
 pub fn find_window(offsets: &[u32], corners: &[u32], e: [u32; 2], stop: usize) -> usize
     requires { ⌜ Shaped (now offsets) (length (now corners)) ⌝ }
@@ -380,7 +443,7 @@ pub fn find_window(offsets: &[u32], corners: &[u32], e: [u32; 2], stop: usize) -
     while c < stop {
         c = starts_at(corners, e[0], c, stop);
         if c < stop {
-            f = face_from(offsets, f, c);
+            f = face_on(offsets, f, c);
             if window_is(offsets, corners, e, f, c) {
                 return c;
             }
@@ -486,7 +549,7 @@ pub fn turn_at(offsets: &[u32], corners: &[u32], c: usize) -> usize
     requires { ⌜ c < length (now corners) ⌝ }
     ensures { λ r. ⌜ r ≡ turn (now (offsets .entry)) (now (corners .entry)) c ⌝ }
 {
-    let f = face_of(offsets, c);
+    let f = face_on(offsets, 0, c);
     let p = prev_in(offsets, f, c);
     mate_in(offsets, corners, f, p)
 }

@@ -4,6 +4,7 @@ use native.Mathlib.Omega.{arith}
 use borrow.Author.Needs.{needs}
 use Rattle.slices.specs.First.{Searched, begun, onward, ended-at, ended}
 use Rattle.mesh.specs.Mesh.{windowIs}
+use Rattle.mesh.specs.Shape.{mono}
 use Rattle.mesh.specs.Corners.{in-face}
 use Rattle.mesh.specs.Scan.{Behind, skips, behind-later, behind-next}
 use Rattle.mesh.proofs.find_window.Statement.{statement}
@@ -24,11 +25,11 @@ array-read-starts-at c = search needs
 starts-at-requires : tie.Need-starts-at-requires Inv-loop μ-loop
 starts-at-requires c κs = (c .before .loop .inv .0 .within, c .before .before .before .before .pre .1 .1)
 
-face-from-requires : tie.Need-face-from-requires Inv-loop μ-loop
-face-from-requires c κs = behind-later (c .before .before .before .before .before .before .args .offsets .now) _ _ _ (c .before .before .before .loop .inv .1) (c .before .starts-at .ensures .ahead)
+face-on-requires : tie.Need-face-on-requires Inv-loop μ-loop
+face-on-requires c κs = (mono _ _ (c .before .before .before .before .before .before .pre .0), behind-later (c .before .before .before .before .before .before .args .offsets .now) _ _ _ (c .before .before .before .loop .inv .1) (c .before .starts-at .ensures .ahead))
 
 window-is-requires : tie.Need-window-is-requires Inv-loop μ-loop
-window-is-requires c κs = let st = c .before .before .before .before .before .before .before in (st .pre .0, rw (c .face-from .ensures) (in-face _ _ (st .pre .0) _ (omega (arith, st .pre .1 .1, c .before .if1 .taken))))
+window-is-requires c κs = let st = c .before .before .before .before .before .before .before in (st .pre .0, rw (c .face-on .ensures) (in-face _ _ (st .pre .0) _ (omega (arith, st .pre .1 .1, c .before .if1 .taken))))
 
 returns : tie.Need-returns Inv-loop μ-loop
 returns c = let a = c .before .before .before .before .before .before .before .before .before .args in ended-at (skips (a .offsets .now) (a .corners .now) (a .t3) (c .before .before .before .before .before .before .loop .inv .0) (c .before .before .before .before .starts-at .ensures)) (omega (arith, c .before .before .before .if1 .taken)) (sym (c .before .window-is .ensures) ∙ c .if2 .taken)
@@ -43,7 +44,7 @@ loop-again : tie.Need-loop-again Inv-loop μ-loop
 loop-again c =
     let a = c .before .before .before .before .before .before .before .before .before .args in (
       onward (skips (a .offsets .now) (a .corners .now) (a .t3) (c .before .before .before .before .before .before .loop .inv .0) (c .before .before .before .before .starts-at .ensures)) (omega (arith, c .before .before .before .if1 .taken)) (sym (c .before .window-is .ensures) ∙ c .if2 .left),
-      rw (c .before .before .face-from .ensures) (behind-next _ _),
+      rw (c .before .before .face-on .ensures) (behind-next _ _),
     )
 
 loop-less-2 : tie.Need-loop-less-2 Inv-loop μ-loop
@@ -64,7 +65,7 @@ find-window-spec =
     loop-holds
     array-read-starts-at
     starts-at-requires
-    face-from-requires
+    face-on-requires
     window-is-requires
     returns
     add-c

@@ -3,7 +3,7 @@ use native.Mathlib.Omega.{arith}
 use borrow.Author.Needs.{needs}
 use borrow.Author.Tests.{ne-eqb}
 use Rattle.slices.specs.First.{isAt}
-use Rattle.mesh.specs.Scan.{Skipped, skipped-none, skipped-more}
+use Rattle.mesh.specs.Scan.{Skipped, skipped-more}
 use Rattle.mesh.proofs.starts_at.Statement.{statement}
 use Rattle.mesh.proofs.starts_at.Tie as tie
 
@@ -13,8 +13,11 @@ Inv-loop corners v from stop c₀ c = Skipped (isAt corners v) stop from c
 abbrev μ-loop : tie.MeasureT-loop
 μ-loop corners v from stop c₀ c = stop - c
 
+leap-requires : tie.Need-leap-requires Inv-loop μ-loop
+leap-requires c κs = search needs
+
 loop-holds : tie.Need-loop-holds Inv-loop μ-loop
-loop-holds c = skipped-none _ _ _ (omega arith)
+loop-holds c = c .leap .ensures
 
 mul-if1 : tie.Need-mul-if1 Inv-loop μ-loop
 mul-if1 c = search needs
@@ -43,6 +46,7 @@ starts-at-spec =
     (tie.spec
     Inv-loop
     μ-loop
+    leap-requires
     loop-holds
     mul-if1
     shared-slice-read-if1
