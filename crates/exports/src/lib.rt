@@ -1,12 +1,19 @@
 // The boundary to C and Rust: each exposed function with numbers as themselves, a slice as a pointer and a length, a number that may be absent as a flag and a value, and the answer as six numbers by value.
 
 ghost use mathlib.Core.Path.{_≡_};
+ghost use Prim.Native.Nat.{_/_};
 ghost use lib.ListN.{length};
 ghost use Rattle.mesh.specs.Tests.{verdict, tests, fullTests};
 ghost use Rattle.mesh.specs.EdgeList.{listing};
 ghost use Rattle.engine.specs.Result.{wordsOf};
 ghost use Rattle.operators.specs.Operators.{reverseOutcome, reflectOutcome, triangulateOutcome, amboOutcome, dualOutcome, kisOutcome, chamferOutcome, gyroOutcome, propellorOutcome, whirlOutcome, quintoOutcome};
+ghost use Rattle.steps.specs.Steps.{mesh, room};
+ghost use Rattle.panel.specs.Format.{reading, lent};
+ghost use Rattle.given.specs.Given.{lentSteps};
+ghost use Rattle.called.specs.Called.{givenTrail, codedTrail};
 ghost use Rattle.exports.specs.Words.{spelled, verdictWords, listingWords, optional, masked, Told, Listed};
+ghost use Rattle.exports.specs.Runs.{Carried, LedgerTold};
+ghost use Rattle.exports.specs.Filing.{filing, filedWords, writing, writtenWords, FileTold, StepsTold, WriteTold};
 
 // An answer: number, place and step of a refusal, or the counts V, E, F; what is not named is 0.
 #[repr(C)]
@@ -17,6 +24,25 @@ pub struct Words {
     pub v: u32,
     pub e: u32,
     pub f: u32,
+}
+
+// What a panel file holds, or why it is refused.
+#[repr(C)]
+pub struct Filing {
+    pub number: u32,
+    pub place: u32,
+    pub steps: u32,
+    pub positions: u32,
+    pub faces: u32,
+    pub corners: u32,
+}
+
+// How many bytes were written of a panel file, or why it is refused.
+#[repr(C)]
+pub struct Writing {
+    pub number: u32,
+    pub place: u32,
+    pub bytes: u32,
 }
 
 // ---- what crosses the boundary
@@ -443,4 +469,183 @@ pub extern "C" fn cg_quinto(
         out_coords,
     );
     spell(a)
+}
+
+// ---- lists and recipes
+
+// The list of this number, from 1 on: bevel, expand, join, medial, meta, needle, ortho, snub, truncate, zip.
+#[no_mangle]
+pub extern "C" fn cg_list(
+    code: u32,
+    io: &[u32],
+    ic: &[u32],
+    ip: &[f32],
+    has_ratio: bool,
+    ratio: f32,
+    has_height: bool,
+    height: f32,
+    has_arities: bool,
+    arities: &[u32],
+    regular: bool,
+    ao: &mut [u32],
+    ac: &mut [u32],
+    ap: &mut [f32],
+    bo: &mut [u32],
+    bc: &mut [u32],
+    bp: &mut [f32],
+    xo: &mut [u32],
+    xc: &mut [u32],
+    xp: &mut [f32],
+) -> Words
+    ensures { λ r. ⌜ Carried (codedTrail code (optional «has_ratio» ratio) (optional «has_height» height) «has_arities» (now (arities .entry)) regular (mesh (now (io .entry)) (now (ic .entry)) (now (ip .entry))) (room (now (ao .entry)) (now (ac .entry)) (now (ap .entry))) (room (now (bo .entry)) (now (bc .entry)) (now (bp .entry))) (room (now (xo .entry)) (now (xc .entry)) (now (xp .entry)))) (mesh (now (ao .entry)) (now (ac .entry)) (now (ap .entry))) (mesh (now (bo .entry)) (now (bc .entry)) (now (bp .entry))) (mesh (now (xo .entry)) (now (xc .entry)) (now (xp .entry))) r (mesh (now (ao .exit)) (now (ac .exit)) (now (ap .exit))) (mesh (now (bo .exit)) (now (bc .exit)) (now (bp .exit))) (mesh (now (xo .exit)) (now (xc .exit)) (now (xp .exit))) ⌝ }
+{
+    let t = optional(has_ratio, ratio);
+    let h = optional(has_height, height);
+    let a = called::list(
+        code,
+        t,
+        h,
+        has_arities,
+        arities,
+        regular,
+        io,
+        ic,
+        ip,
+        ao,
+        ac,
+        ap,
+        bo,
+        bc,
+        bp,
+        xo,
+        xc,
+        xp,
+    );
+    spell(a)
+}
+
+// A recipe, four words a step; the ledger has four numbers a row.
+#[no_mangle]
+pub extern "C" fn cg_recipe(
+    steps: &[[u32; 4]],
+    ledger: &mut [u32],
+    io: &[u32],
+    ic: &[u32],
+    ip: &[f32],
+    ao: &mut [u32],
+    ac: &mut [u32],
+    ap: &mut [f32],
+    bo: &mut [u32],
+    bc: &mut [u32],
+    bp: &mut [f32],
+    xo: &mut [u32],
+    xc: &mut [u32],
+    xp: &mut [f32],
+) -> Words
+    ensures { λ r. ⌜ LedgerTold (givenTrail (length (now (ledger .entry)) / 4) (now (steps .entry)) (mesh (now (io .entry)) (now (ic .entry)) (now (ip .entry))) (room (now (ao .entry)) (now (ac .entry)) (now (ap .entry))) (room (now (bo .entry)) (now (bc .entry)) (now (bp .entry))) (room (now (xo .entry)) (now (xc .entry)) (now (xp .entry)))) (now (ledger .entry)) (mesh (now (ao .entry)) (now (ac .entry)) (now (ap .entry))) (mesh (now (bo .entry)) (now (bc .entry)) (now (bp .entry))) (mesh (now (xo .entry)) (now (xc .entry)) (now (xp .entry))) r (now (ledger .exit)) (mesh (now (ao .exit)) (now (ac .exit)) (now (ap .exit))) (mesh (now (bo .exit)) (now (bc .exit)) (now (bp .exit))) (mesh (now (xo .exit)) (now (xc .exit)) (now (xp .exit))) ⌝ }
+{
+    let a = called::recipe(
+        steps,
+        ledger,
+        io,
+        ic,
+        ip,
+        ao,
+        ac,
+        ap,
+        bo,
+        bc,
+        bp,
+        xo,
+        xc,
+        xp,
+    );
+    spell(a)
+}
+
+// ---- the panel file
+
+// The words of what was filed.
+fn spell_filed(f: panel::Filed) -> Filing
+    ensures { λ r. ⌜ filing r ≡ filedWords f ⌝ }
+{
+    match f {
+        panel::Filed::Fine {
+            steps,
+            positions,
+            faces,
+            corners,
+        } => Filing {
+            number: 0,
+            place: 0,
+            steps,
+            positions,
+            faces,
+            corners,
+        },
+        panel::Filed::Refused { number, place } => Filing {
+            number,
+            place,
+            steps: 0,
+            positions: 0,
+            faces: 0,
+            corners: 0,
+        },
+    }
+}
+
+// The words of what was written.
+fn spell_written(w: writer::Written) -> Writing
+    ensures { λ r. ⌜ writing r ≡ writtenWords w ⌝ }
+{
+    match w {
+        writer::Written::Done(bytes) => Writing {
+            number: 0,
+            place: 0,
+            bytes,
+        },
+        writer::Written::Refused { number, place } => Writing {
+            number,
+            place,
+            bytes: 0,
+        },
+    }
+}
+
+// Reads the mesh of a panel file.
+#[no_mangle]
+pub extern "C" fn cg_panel_read(
+    bytes: &[u8],
+    out_offsets: &mut [u32],
+    out_corners: &mut [u32],
+    out_coords: &mut [f32],
+) -> Filing
+    ensures { λ r. ⌜ FileTold (lent (reading (now (bytes .entry))) (length (now («out_offsets» .entry))) (length (now («out_corners» .entry))) (length (now («out_coords» .entry)))) (now («out_offsets» .entry)) (now («out_corners» .entry)) (now («out_coords» .entry)) r (now («out_offsets» .exit)) (now («out_corners» .exit)) (now («out_coords» .exit)) ⌝ }
+{
+    let f = panel::read(bytes, out_offsets, out_corners, out_coords);
+    spell_filed(f)
+}
+
+// Reads the steps of a panel file, four words a step.
+#[no_mangle]
+pub extern "C" fn cg_panel_steps(bytes: &[u8], out: &mut [[u32; 4]]) -> Filing
+    ensures { λ r. ⌜ StepsTold (now (bytes .entry)) (lentSteps (reading (now (bytes .entry))) (length (now (out .entry)))) (now (out .entry)) r (now (out .exit)) ⌝ }
+{
+    let f = given::file_steps(bytes, out);
+    spell_filed(f)
+}
+
+// Writes a panel file of steps, four words a step, and a mesh.
+#[no_mangle]
+pub extern "C" fn cg_panel_write(
+    steps: &[[u32; 4]],
+    offsets: &[u32],
+    corners: &[u32],
+    coords: &[f32],
+    out: &mut [u8],
+) -> Writing
+    ensures { λ r. ⌜ WriteTold (now (steps .entry)) (now (offsets .entry)) (now (corners .entry)) (now (coords .entry)) (now (out .entry)) r (now (out .exit)) ⌝ }
+{
+    let w = given::write(steps, offsets, corners, coords, out);
+    spell_written(w)
 }

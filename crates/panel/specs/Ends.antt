@@ -1,17 +1,15 @@
 -- A step, the end of a file, and number 13, from the parts that the code has at hand. Assumes nothing.
-use mathlib.Core.Path.{_≡_, refl, sym, _∙_, ap, ap₂}
+use mathlib.Core.Path.{_≡_, refl, sym, _∙_, ap}
 use mathlib.Core.Bool.{true, false}
 use mathlib.Core.List.{List}
-use Prim.Native.Nat.{ℕ, zero, suc, _+_, _*_, _/_, _<_, _≤_}
+use Prim.Native.Nat.{ℕ, _+_, _*_, _/_, _<_, _≤_}
 use native.Mathlib.Omega.{arith}
 use lib.ListN.{length}
 use lib.Dec.{ltb, eqb}
 use borrow.Author.Tests.{eq-eqb, ne-eqb, lt-ltb, le-ltb}
-use Rattle.operators.specs.declared.Number.{Number}
 use Rattle.steps.specs.declared.Step.{Step}
-use Rattle.steps.specs.declared.Step.the-variants.{Triangulate}
 use Rattle.words.specs.Words.{wordAt}
-use Rattle.parts.specs.StepWords.{ratioFlag, heightFlag, numberOf, stepOf, stepWith}
+use Rattle.parts.specs.StepWords.{stepWith}
 use Rattle.panel.specs.declared.Filed.{Filed}
 use Rattle.panel.specs.declared.Filed.the-variants.{Fine, Refused}
 use Rattle.panel.specs.Format.{endAt, ending, stepAt}
@@ -20,27 +18,10 @@ use Rattle.panel.specs.Laws.{fittedOf}
 -- ---- a step
 
 pub step-is :
-    (s : List ℕ) (at a b c d : ℕ) (t h : Number) (r : Step) → a ≡ wordAt s at → b ≡ wordAt s (at + 4) → c ≡ wordAt s (at + 8) → d ≡ wordAt s (at + 12) →
-    t ≡ numberOf (ratioFlag b) c → h ≡ numberOf (heightFlag b) d → r ≡ stepOf a t h → r ≡ stepAt s at
-unfolding stepAt stepWith
-step-is s at a b c d t h r ea eb ec ed et eh er = rw (← ea, ← eb, ← ec, ← ed) (er ∙ ap₂ (stepOf a) et eh)
-
-pub last-code :
-    (c : ℕ) (t h : Number) → (c ≡ 1 → ⊥) → (c ≡ 2 → ⊥) → (c ≡ 3 → ⊥) → (c ≡ 4 → ⊥) → (c ≡ 5 → ⊥) → (c ≡ 6 → ⊥) → (c ≡ 7 → ⊥) → (c ≡ 8 → ⊥) →
-    (c ≡ 9 → ⊥) → (c ≡ 10 → ⊥) → Triangulate ≡ stepOf c t h
-unfolding stepOf
-last-code zero t h a b d e f g i j k l = refl
-last-code (suc zero) t h a b d e f g i j k l = absurd (a refl)
-last-code (suc (suc zero)) t h a b d e f g i j k l = absurd (b refl)
-last-code (suc (suc (suc zero))) t h a b d e f g i j k l = absurd (d refl)
-last-code (suc (suc (suc (suc zero)))) t h a b d e f g i j k l = absurd (e refl)
-last-code (suc (suc (suc (suc (suc zero))))) t h a b d e f g i j k l = absurd (f refl)
-last-code (suc (suc (suc (suc (suc (suc zero)))))) t h a b d e f g i j k l = absurd (g refl)
-last-code (suc (suc (suc (suc (suc (suc (suc zero))))))) t h a b d e f g i j k l = absurd (i refl)
-last-code (suc (suc (suc (suc (suc (suc (suc (suc zero)))))))) t h a b d e f g i j k l = absurd (j refl)
-last-code (suc (suc (suc (suc (suc (suc (suc (suc (suc zero))))))))) t h a b d e f g i j k l = absurd (k refl)
-last-code (suc (suc (suc (suc (suc (suc (suc (suc (suc (suc zero)))))))))) t h a b d e f g i j k l = absurd (l refl)
-last-code (suc (suc (suc (suc (suc (suc (suc (suc (suc (suc (suc n))))))))))) t h a b d e f g i j k l = refl
+    (s : List ℕ) (at a b c d : ℕ) (r : Step) → a ≡ wordAt s at → b ≡ wordAt s (at + 4) → c ≡ wordAt s (at + 8) → d ≡ wordAt s (at + 12) →
+    r ≡ stepWith a b c d → r ≡ stepAt s at
+unfolding stepAt
+step-is s at a b c d r ea eb ec ed er = rw (← ea, ← eb, ← ec, ← ed) er
 
 -- ---- the end of the file
 

@@ -1,6 +1,5 @@
 // The panel file's reader: one pass that checks the whole file, then one that writes what it holds.
 
-use operators::Number;
 use parts::Part;
 use steps::Step;
 ghost use mathlib.Core.Path.{_≡_};
@@ -9,7 +8,6 @@ ghost use lib.ListN.{length};
 ghost use lib.Seq.{sets};
 ghost use Rattle.slices.specs.Lists.{over};
 ghost use Rattle.words.specs.Words.{wordAt};
-ghost use Rattle.parts.specs.StepWords.{numberOf, stepOf};
 ghost use Rattle.panel.specs.Format.{ending, checked, run, floatAt, stepAt, facesFrom, reading, lent, Read, stepsOf, fillers};
 ghost use Rattle.panel.specs.Laws.{refusalOf, fittedOf};
 ghost use Rattle.panel.specs.Written.{Placed, PutFaces, stepCount};
@@ -62,7 +60,7 @@ fn ending_of(bytes: &[u8], n: u32, v: u32, f: u32, c: u32) -> Filed
 }
 
 // The whole file checked: numbers 15 to 18.
-fn check(bytes: &[u8]) -> Filed
+pub fn check(bytes: &[u8]) -> Filed
     ensures { λ r. ⌜ r ≡ checked (now (bytes .entry)) ⌝ }
 {
     let listed = parts::steps_part(bytes);
@@ -183,42 +181,17 @@ pub fn read(bytes: &[u8], offsets: &mut [u32], corners: &mut [u32], coords: &mut
     filed
 }
 
-fn number_of(present: bool, bits: u32) -> Number
-    ensures { λ r. ⌜ r ≡ numberOf present bits ⌝ }
-{
-    if present {
-        return Number::Given(words::float_of(bits));
-    }
-    Number::Absent
-}
-
-fn step_of(code: u32, ratio: Number, height: Number) -> Step
-    ensures { λ r. ⌜ r ≡ stepOf code ratio height ⌝ }
-{
-    match code {
-        1 => Step::Ambo(ratio),
-        2 => Step::Chamfer(ratio),
-        3 => Step::Dual,
-        4 => Step::Gyro(ratio, height),
-        5 => Step::Kis(height),
-        6 => Step::Propellor(ratio),
-        7 => Step::Quinto(height),
-        8 => Step::Reflect,
-        9 => Step::Reverse,
-        10 => Step::Whirl(ratio, height),
-        _ => Step::Triangulate,
-    }
-}
-
 // The step at a byte.
 fn step_at(bytes: &[u8], at: usize) -> Step
     requires { ⌜ at + 16 ≤ length (now bytes) ⌝ }
     ensures { λ r. ⌜ r ≡ stepAt (now (bytes .entry)) at ⌝ }
 {
-    let flags = words::word(bytes, at + 4);
-    let ratio = number_of(flags % 2 == 1, words::word(bytes, at + 8));
-    let height = number_of(flags / 2 % 2 == 1, words::word(bytes, at + 12));
-    step_of(words::word(bytes, at), ratio, height)
+    parts::step_with(
+        words::word(bytes, at),
+        words::word(bytes, at + 4),
+        words::word(bytes, at + 8),
+        words::word(bytes, at + 12),
+    )
 }
 
 // How many steps a checked file has; none where it is refused.

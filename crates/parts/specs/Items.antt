@@ -1,15 +1,18 @@
 -- What one item comes to, from the parts that the code has at hand. Assumes nothing.
-use mathlib.Core.Path.{_≡_, refl, sym, _∙_, ap}
+use mathlib.Core.Path.{_≡_, refl, sym, _∙_, ap, ap₂}
 use mathlib.Core.Bool.{Bool, true, false, _&&_, cond}
 use mathlib.Core.List.{List}
-use Prim.Native.Nat.{ℕ, _+_, _%_, _/_, _<_, _≤_}
+use Prim.Native.Nat.{ℕ, zero, suc, _+_, _%_, _/_, _<_, _≤_}
 use native.Mathlib.Omega.{arith}
 use lib.Dec.{leb, eqb}
 use borrow.Author.Tests.{le-leb, lt-leb, ne-eqb}
+use Rattle.operators.specs.declared.Number.{Number}
+use Rattle.steps.specs.declared.Step.{Step}
+use Rattle.steps.specs.declared.Step.the-variants.{Triangulate}
 use Rattle.words.specs.Words.{wordAt, wholeAt}
 use Rattle.parts.specs.declared.Part.{Part}
 use Rattle.parts.specs.declared.Part.the-variants.{Has, Stops}
-use Rattle.parts.specs.StepWords.{oneOf, takesRatio, takesHeight, ratioFlag, heightFlag, goodNumber, goodStep}
+use Rattle.parts.specs.StepWords.{oneOf, takesRatio, takesHeight, ratioFlag, heightFlag, goodNumber, goodStep, numberOf, stepOf, stepWith}
 use Rattle.parts.specs.Parts.{countAt, stepSays, wholeSays}
 
 -- ---- the words of a step
@@ -87,3 +90,28 @@ no-ratio c a b d e f = rw (ne-eqb c 1 a, ne-eqb c 2 b, ne-eqb c 4 d, ne-eqb c 6 
 pub no-height : (c : ℕ) → (c ≡ 4 → ⊥) → (c ≡ 5 → ⊥) → (c ≡ 7 → ⊥) → (c ≡ 10 → ⊥) → false ≡ takesHeight c
 unfolding takesHeight oneOf
 no-height c a b d e = rw (ne-eqb c 4 a, ne-eqb c 5 b, ne-eqb c 7 d, ne-eqb c 10 e) refl
+
+-- ---- the step that four words stand for
+
+pub last-code :
+    (c : ℕ) (t h : Number) → (c ≡ 1 → ⊥) → (c ≡ 2 → ⊥) → (c ≡ 3 → ⊥) → (c ≡ 4 → ⊥) → (c ≡ 5 → ⊥) → (c ≡ 6 → ⊥) → (c ≡ 7 → ⊥) → (c ≡ 8 → ⊥) →
+    (c ≡ 9 → ⊥) → (c ≡ 10 → ⊥) → Triangulate ≡ stepOf c t h
+unfolding stepOf
+last-code zero t h a b d e f g i j k l = refl
+last-code (suc zero) t h a b d e f g i j k l = absurd (a refl)
+last-code (suc (suc zero)) t h a b d e f g i j k l = absurd (b refl)
+last-code (suc (suc (suc zero))) t h a b d e f g i j k l = absurd (d refl)
+last-code (suc (suc (suc (suc zero)))) t h a b d e f g i j k l = absurd (e refl)
+last-code (suc (suc (suc (suc (suc zero))))) t h a b d e f g i j k l = absurd (f refl)
+last-code (suc (suc (suc (suc (suc (suc zero)))))) t h a b d e f g i j k l = absurd (g refl)
+last-code (suc (suc (suc (suc (suc (suc (suc zero))))))) t h a b d e f g i j k l = absurd (i refl)
+last-code (suc (suc (suc (suc (suc (suc (suc (suc zero)))))))) t h a b d e f g i j k l = absurd (j refl)
+last-code (suc (suc (suc (suc (suc (suc (suc (suc (suc zero))))))))) t h a b d e f g i j k l = absurd (k refl)
+last-code (suc (suc (suc (suc (suc (suc (suc (suc (suc (suc zero)))))))))) t h a b d e f g i j k l = absurd (l refl)
+last-code (suc (suc (suc (suc (suc (suc (suc (suc (suc (suc (suc n))))))))))) t h a b d e f g i j k l = refl
+
+pub step-from :
+    (code flags ratio height : ℕ) (t h : Number) (r : Step) → t ≡ numberOf (ratioFlag flags) ratio → h ≡ numberOf (heightFlag flags) height →
+    r ≡ stepOf code t h → r ≡ stepWith code flags ratio height
+unfolding stepWith
+step-from code flags ratio height t h r et eh er = er ∙ ap₂ (stepOf code) et eh

@@ -1,8 +1,10 @@
-// The parts of a panel file, checked one by one: counts, steps, items of one size, faces.
+// The parts of a panel file, checked one by one: counts, steps, items of one size, faces; the step that four words stand for.
 
+use operators::Number;
+use steps::Step;
 ghost use mathlib.Core.Path.{_≡_};
 ghost use Prim.Native.Nat.{_+_, _-_, _*_, _<_, _≤_};
-ghost use Rattle.parts.specs.StepWords.{takesRatio, takesHeight, goodNumber, goodStep};
+ghost use Rattle.parts.specs.StepWords.{takesRatio, takesHeight, goodNumber, goodStep, numberOf, stepOf, stepWith};
 ghost use Rattle.parts.specs.Parts.{countAt, stepSays, wholeSays, items, section, faces};
 
 // What a part of a file comes to: a number that later parts go by, or the end of reading.
@@ -47,7 +49,7 @@ fn good_number(takes: bool, present: bool, bits: u32) -> bool
 }
 
 // A known code, no other flags than 1 and 2, and two good numbers.
-fn good_step(code: u32, flags: u32, ratio: u32, height: u32) -> bool
+pub fn good_step(code: u32, flags: u32, ratio: u32, height: u32) -> bool
     ensures { λ r. ⌜ r ≡ goodStep code flags ratio height ⌝ }
 {
     if code < 1 {
@@ -63,6 +65,42 @@ fn good_step(code: u32, flags: u32, ratio: u32, height: u32) -> bool
         return good_number(takes_height(code), flags / 2 % 2 == 1, height);
     }
     false
+}
+
+fn number_of(present: bool, bits: u32) -> Number
+    ensures { λ r. ⌜ r ≡ numberOf present bits ⌝ }
+{
+    if present {
+        return Number::Given(words::float_of(bits));
+    }
+    Number::Absent
+}
+
+fn step_of(code: u32, ratio: Number, height: Number) -> Step
+    ensures { λ r. ⌜ r ≡ stepOf code ratio height ⌝ }
+{
+    match code {
+        1 => Step::Ambo(ratio),
+        2 => Step::Chamfer(ratio),
+        3 => Step::Dual,
+        4 => Step::Gyro(ratio, height),
+        5 => Step::Kis(height),
+        6 => Step::Propellor(ratio),
+        7 => Step::Quinto(height),
+        8 => Step::Reflect,
+        9 => Step::Reverse,
+        10 => Step::Whirl(ratio, height),
+        _ => Step::Triangulate,
+    }
+}
+
+// The step that four words stand for.
+pub fn step_with(code: u32, flags: u32, ratio: u32, height: u32) -> Step
+    ensures { λ r. ⌜ r ≡ stepWith code flags ratio height ⌝ }
+{
+    let t = number_of(flags % 2 == 1, ratio);
+    let h = number_of(flags / 2 % 2 == 1, height);
+    step_of(code, t, h)
 }
 
 // A count or an arity: 15 where it is not whole, 16 where it is over `most`.

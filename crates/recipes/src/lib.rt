@@ -5,8 +5,7 @@ use chain::Row;
 use engine::Answer;
 use picks::Mask;
 use runner::run;
-use slices::clear_f32;
-use slices::clear_u32;
+use runner::wipe;
 use steps::Step;
 ghost use mathlib.Core.Path.{_≡_};
 ghost use Prim.Native.Nat.{_+_, _*_, _/_, _≤_};
@@ -14,18 +13,8 @@ ghost use lib.ListN.{length, take};
 ghost use lib.Seq.{sets};
 ghost use Rattle.slices.specs.Lists.{over};
 ghost use Rattle.steps.specs.Steps.{mesh, room};
-ghost use Rattle.chain.specs.Trail.{Zero};
 ghost use Rattle.runner.specs.Run.{Went};
 ghost use Rattle.recipes.specs.Recipe.{recipeTrail, shortRan, flatRow, flatRows, Entered};
-
-// Zero in every element of a mesh.
-fn wipe(o: &mut [u32], c: &mut [u32], p: &mut [f32])
-    ensures { λ _. ⌜ Zero (now (o .entry)) (now (c .entry)) (now (p .entry)) (now (o .exit)) (now (c .exit)) (now (p .exit)) ⌝ }
-{
-    clear_u32(o);
-    clear_u32(c);
-    clear_f32(p);
-}
 
 // No step is done, for the ledger is shorter than the recipe.
 fn short() -> Ran

@@ -82,7 +82,7 @@ fn begin(
 }
 
 // A work mesh that reads zero.
-fn wipe(o: &mut [u32], c: &mut [u32], x: &mut [f32])
+pub fn wipe(o: &mut [u32], c: &mut [u32], x: &mut [f32])
     ensures { λ _. ⌜ Zero (now (o .entry)) (now (c .entry)) (now (x .entry)) (now (o .exit)) (now (c .exit)) (now (x .exit)) ⌝ }
 {
     slices::clear_u32(o);

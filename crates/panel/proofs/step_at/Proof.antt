@@ -3,51 +3,43 @@ use borrow.Author.Needs.{needs}
 use Rattle.panel.proofs.step_at.Statement.{statement}
 use Rattle.panel.proofs.step_at.Tie as tie
 
-add-word : tie.Need-add-word
-add-word c = search needs
-
 word-requires : tie.Need-word-requires
 word-requires c κs = search needs
 
-add-word-2 : tie.Need-add-word-2
-add-word-2 c = search needs
+add-word : tie.Need-add-word
+add-word c = search needs
 
 word-requires-2 : tie.Need-word-requires-2
 word-requires-2 c κs = search needs
 
-number-of-requires : tie.Need-number-of-requires
-number-of-requires c κs = search needs
-
-add-word-3 : tie.Need-add-word-3
-add-word-3 c = search needs
+add-word-2 : tie.Need-add-word-2
+add-word-2 c = search needs
 
 word-requires-3 : tie.Need-word-requires-3
 word-requires-3 c κs = search needs
 
-number-of-requires-2 : tie.Need-number-of-requires-2
-number-of-requires-2 c κs = search needs
+add-word-3 : tie.Need-add-word-3
+add-word-3 c = search needs
 
 word-requires-4 : tie.Need-word-requires-4
 word-requires-4 c κs = search needs
 
-step-of-requires : tie.Need-step-of-requires
-step-of-requires c κs = search needs
+step-with-requires : tie.Need-step-with-requires
+step-with-requires c κs = search needs
 
 returns : tie.Need-returns
-returns c = step-is _ _ _ _ _ _ _ _ _ (c .before .word4 .ensures) (c .before .before .before .before .before .before .word .ensures) (c .before .before .before .before .before .word2 .ensures) (c .before .before .before .word3 .ensures) (c .before .before .before .before .number-of .ensures) (c .before .before .number-of2 .ensures) (c .step-of .ensures)
+returns c = step-is _ _ _ _ _ _ _ (c .before .before .before .before .word .ensures) (c .before .before .before .word2 .ensures) (c .before .before .word3 .ensures) (c .before .word4 .ensures) (c .step-with .ensures)
 
 pub step-at-spec : {M : Type 1} → statement M
 step-at-spec =
     tie.close
     (tie.spec
-    add-word
     word-requires
-    add-word-2
+    add-word
     word-requires-2
-    number-of-requires
-    add-word-3
+    add-word-2
     word-requires-3
-    number-of-requires-2
+    add-word-3
     word-requires-4
-    step-of-requires
+    step-with-requires
     returns)

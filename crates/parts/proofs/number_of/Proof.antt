@@ -1,8 +1,8 @@
 use mathlib.Core.Path.{ap}
 use Rattle.operators.specs.declared.Number.the-variants.{Given}
 use borrow.Author.Needs.{needs}
-use Rattle.panel.proofs.number_of.Statement.{statement}
-use Rattle.panel.proofs.number_of.Tie as tie
+use Rattle.parts.proofs.number_of.Statement.{statement}
+use Rattle.parts.proofs.number_of.Tie as tie
 
 float-of-requires : tie.Need-float-of-requires
 float-of-requires c κs = search needs

@@ -1,8 +1,8 @@
-use Rattle.panel.specs.Ends.{last-code}
+use Rattle.parts.specs.Items.{last-code}
 use mathlib.Core.Path.{refl}
 use Rattle.parts.specs.StepWords.{stepOf}
-use Rattle.panel.proofs.step_of.Statement.{statement}
-use Rattle.panel.proofs.step_of.Tie as tie
+use Rattle.parts.proofs.step_of.Statement.{statement}
+use Rattle.parts.proofs.step_of.Tie as tie
 
 returns : tie.Need-returns
 unfolding stepOf
