@@ -1,4 +1,5 @@
-/* Crossglimmer for C and C++: the checks of a mesh, its edge list and the eleven operators.
+/* Crossglimmer for C and C++: the checks of a mesh, its edge list, the eleven operators, the ten lists, recipes and the
+ * panel file.
  *
  * A MESH is three runs of numbers:
  *   offsets  F + 1 numbers, the first 0, none smaller than the one before, the last the number of corners;
@@ -11,8 +12,8 @@
  * Two things are the caller's, as C cannot say them:
  *   - every pointer points to that many elements, aligned and not null, also where the length is 0;
  *   - a run that is written overlaps no other run of the call.
- * A call keeps nothing, allocates nothing and writes only to the runs named out...; it may be made from
- * several threads at once, on runs of their own.
+ * A call keeps nothing, allocates nothing and writes only to the runs named out..., and in lists and recipes to the
+ * work meshes and the ledger; it may be made from several threads at once, on runs of their own.
  *
  * The ANSWER is six numbers. Where number is 0 the call is done: v, e and f are the positions, edges (half the
  * corners, rounded down) and faces of the mesh written at the front of the out runs; what lies past it is as it was.
@@ -20,7 +21,7 @@
  *
  *   number  when                                              place
  *   1       offsets or coordinates of wrong shape             0 offsets, 1 coordinates
- *   2       input over a limit (60,000 each)                  0 faces, 1 corners, 2 positions
+ *   2       input over a limit (60,000 each)                  0 faces, 1 corners, 2 positions, 3 steps (16)
  *   3       ratio or height not finite                        0 ratio, 1 height
  *   4       coordinate not finite                             its index in coords
  *   5       face under three corners                          the face
@@ -31,10 +32,16 @@
  *   10      vertex in fewer than three faces                  the vertex
  *   11      faces round a vertex form more than one fan       the vertex
  *   12      result over a limit (60,000 each)                 0 faces, 1 corners, 2 positions
- *   13      result does not fit the out runs                  0 offsets, 1 corners, 2 coordinates
+ *   13      result does not fit the out runs                  0 offsets, 1 corners, 2 coordinates, 3 ledger or steps
  *   14      coordinate of the result not finite               its index in the result
+ *   15      file ends before an item is whole                 the byte that the item starts at
+ *   16      count of a file over its limit                    the byte that the count starts at
+ *   17      no step: unknown code, forbidden flag, or a       the byte that the step starts at: 16 i for step i of a
+ *           number that is absent and not 0                   run of steps, from 0; also an unknown list, 0
+ *   18      bytes left over                                   the first of them
  *
- * The first that holds is answered, at its lowest place. step is 0 outside lists and recipes.
+ * The first that holds is answered, at its lowest place. step is the step of a list or recipe that was refused, from 1,
+ * and 0 outside them, and where they are refused before their first step.
  */
 #ifndef CROSSGLIMMER_H
 #define CROSSGLIMMER_H
@@ -53,7 +60,7 @@ extern "C" {
 typedef struct cg_answer {
     uint32_t number; /* 0 where the call is done, else the number of the table above */
     uint32_t place;  /* of a refusal */
-    uint32_t step;   /* of a refusal in a list or recipe, from 1 */
+    uint32_t step;   /* of a refusal in a list or recipe, from 1, else 0 */
     uint32_t v;      /* positions of the mesh written */
     uint32_t e;      /* its edges */
     uint32_t f;      /* its faces */
@@ -208,6 +215,258 @@ cg_answer cg_quinto(const uint32_t *offsets, size_t offsets_length,
                     uint32_t *out_offsets, size_t out_offsets_length,
                     uint32_t *out_corners, size_t out_corners_length,
                     float *out_coords, size_t out_coords_length);
+
+/* ---- the lists
+ *
+ * Several operators one after the other, each through the whole table before the next is looked at. A list is lent two
+ * WORK MESHES: step 1 writes the first, step 2 the second, in turn, and the last step the out runs. Whatever came of
+ * the call, EVERY element of both reads 0 afterwards. A work mesh that does not hold its step's result is 13 in that
+ * step.
+ */
+
+enum cg_list_code {
+    CG_BEVEL = 1,    /* ambo, dual, kis, dual */
+    CG_EXPAND = 2,   /* ambo, ambo */
+    CG_JOIN = 3,     /* dual, ambo, dual */
+    CG_MEDIAL = 4,   /* ambo, dual, kis, dual, dual */
+    CG_META = 5,     /* dual, ambo, dual, kis; where no arities are given kis takes the arity 3 */
+    CG_NEEDLE = 6,   /* dual, kis, dual, dual */
+    CG_ORTHO = 7,    /* dual, ambo, dual, dual, ambo, dual */
+    CG_SNUB = 8,     /* dual, gyro, dual */
+    CG_TRUNCATE = 9, /* dual, kis, dual */
+    CG_ZIP = 10      /* kis, dual */
+};
+
+/* Reads a mesh and writes what the list of this code makes of it. The ratio goes to each ambo and to gyro, the height
+ * to kis and gyro, arities and regular to kis, as in cg_kis; what the list's operators do not take is not looked at.
+ * Numbers 1 to 14, with their step; 17 (place 0, step 0) where no list has the code. */
+cg_answer cg_list(uint32_t code,
+                  const uint32_t *offsets, size_t offsets_length,
+                  const uint32_t *corners, size_t corners_length,
+                  const float *coords, size_t coords_length,
+                  bool has_ratio, float ratio,
+                  bool has_height, float height,
+                  bool has_arities, const uint32_t *arities, size_t arities_length,
+                  bool regular,
+                  uint32_t *first_offsets, size_t first_offsets_length,
+                  uint32_t *first_corners, size_t first_corners_length,
+                  float *first_coords, size_t first_coords_length,
+                  uint32_t *second_offsets, size_t second_offsets_length,
+                  uint32_t *second_corners, size_t second_corners_length,
+                  float *second_coords, size_t second_coords_length,
+                  uint32_t *out_offsets, size_t out_offsets_length,
+                  uint32_t *out_corners, size_t out_corners_length,
+                  float *out_coords, size_t out_coords_length);
+
+/* ---- recipes */
+
+enum cg_step_code {
+    CG_AMBO = 1,
+    CG_CHAMFER = 2,
+    CG_DUAL = 3,
+    CG_GYRO = 4,
+    CG_KIS = 5,
+    CG_PROPELLOR = 6,
+    CG_QUINTO = 7,
+    CG_REFLECT = 8,
+    CG_REVERSE = 9,
+    CG_WHIRL = 10,
+    CG_TRIANGULATE = 11
+};
+
+enum cg_step_flag {
+    CG_RATIO = 1, /* the ratio is present: ambo, chamfer, gyro, propellor, whirl */
+    CG_HEIGHT = 2 /* the height is present: gyro, kis, quinto, whirl */
+};
+
+/* The most steps of a recipe. */
+#define CG_STEPS 16u
+
+/* A step of a recipe. A number whose flag is not set must be 0 (not -0). */
+typedef struct cg_step {
+    uint32_t code;  /* of cg_step_code */
+    uint32_t flags; /* of cg_step_flag, added */
+    float ratio;
+    float height;
+} cg_step;
+
+/* Reads steps and a mesh, and runs the steps one after the other; kis picks all faces, triangulate takes the shorter
+ * diagonals. Work meshes as in a list: every element reads 0 afterwards. steps_length is how many STEPS there are,
+ * ledger_length how many NUMBERS the ledger has, four a step. Each finished step writes its four: its code, and the
+ * positions, edges and faces of its result. On a refusal the finished steps' stay; the rest of the ledger is as it was.
+ * Before step 1, with step 0: 2 (place 3) over 16 steps; 17 (place 16 i) where step i, from 0, is none; 13 (place 3)
+ * where the ledger has no room for all steps. Then numbers 1 to 14, with their step.
+ * Without steps: numbers 1, 2, 4 to 7 and 13, with step 0, then a copy. */
+cg_answer cg_recipe(const cg_step *steps, size_t steps_length,
+                    uint32_t *ledger, size_t ledger_length,
+                    const uint32_t *offsets, size_t offsets_length,
+                    const uint32_t *corners, size_t corners_length,
+                    const float *coords, size_t coords_length,
+                    uint32_t *first_offsets, size_t first_offsets_length,
+                    uint32_t *first_corners, size_t first_corners_length,
+                    float *first_coords, size_t first_coords_length,
+                    uint32_t *second_offsets, size_t second_offsets_length,
+                    uint32_t *second_corners, size_t second_corners_length,
+                    float *second_coords, size_t second_coords_length,
+                    uint32_t *out_offsets, size_t out_offsets_length,
+                    uint32_t *out_corners, size_t out_corners_length,
+                    float *out_coords, size_t out_coords_length);
+
+/* ---- the panel file
+ *
+ * Little endian words of 32 bits: how many steps, each as in cg_step; how many positions, three floats each; how many
+ * faces, each how many corners and these. At most 16 steps, 400 positions, 400 faces and 1,200 corners.
+ */
+
+/* What a file holds, or why it is refused; the last four are then 0. */
+typedef struct cg_filing {
+    uint32_t number;    /* 0 where the file was read, else the number of the table at the top */
+    uint32_t place;     /* of a refusal */
+    uint32_t steps;
+    uint32_t positions;
+    uint32_t faces;
+    uint32_t corners;
+} cg_filing;
+
+/* What was written. */
+typedef struct cg_writing {
+    uint32_t number; /* 0 where the file was written, else the number of the table at the top */
+    uint32_t place;  /* of a refusal */
+    uint32_t bytes;  /* of the file; 0 where it is refused */
+} cg_writing;
+
+/* Reads a file and writes its mesh at the front of the out runs; what lies past it is as it was, and so is every
+ * element where the file is refused. The mesh is not checked: whatever is called with it does that.
+ * Numbers 15 to 18, then 13 (places 0 to 2). */
+cg_filing cg_panel_read(const uint8_t *bytes, size_t bytes_length,
+                        uint32_t *out_offsets, size_t out_offsets_length,
+                        uint32_t *out_corners, size_t out_corners_length,
+                        float *out_coords, size_t out_coords_length);
+
+/* Reads a file and writes its steps at the front of out, which has room for out_length STEPS; what lies past them is as
+ * it was, and so is every step where the file is refused.
+ * Numbers 15 to 18, then 13 (place 3). */
+cg_filing cg_panel_steps(const uint8_t *bytes, size_t bytes_length,
+                         cg_step *out, size_t out_length);
+
+/* Reads steps and a mesh, of which only the shape is checked, and writes them as a file at the front of out; what lies
+ * past it is as it was, and so is every byte where the call is refused.
+ * Numbers 17 (place 16 i) where step i, from 0, of at most 16 is none; 1; 2 over a limit of the file (place 3 steps,
+ * then 0 faces, 1 corners, 2 positions); 13 (place 0) where the bytes do not fit. */
+cg_writing cg_panel_write(const cg_step *steps, size_t steps_length,
+                          const uint32_t *offsets, size_t offsets_length,
+                          const uint32_t *corners, size_t corners_length,
+                          const float *coords, size_t coords_length,
+                          uint8_t *out, size_t out_length);
+
+/* ---- the lists by name
+ *
+ * cg_list with just the numbers that each list takes, its runs in structs.
+ */
+
+/* A mesh that is read. */
+typedef struct cg_mesh {
+    const uint32_t *offsets;
+    size_t offsets_length;
+    const uint32_t *corners;
+    size_t corners_length;
+    const float *coords;
+    size_t coords_length;
+} cg_mesh;
+
+/* Runs that are lent: for a result, or as a work mesh. */
+typedef struct cg_room {
+    uint32_t *offsets;
+    size_t offsets_length;
+    uint32_t *corners;
+    size_t corners_length;
+    float *coords;
+    size_t coords_length;
+} cg_room;
+
+/* Which faces kis picks. arities may be null where has_arities is false. */
+typedef struct cg_masks {
+    bool has_arities;
+    const uint32_t *arities;
+    size_t arities_length;
+    bool regular;
+} cg_masks;
+
+static inline cg_answer cg_list_of(uint32_t code, cg_mesh mesh, bool has_ratio, float ratio, bool has_height,
+                                   float height, cg_masks masks, cg_room first, cg_room second, cg_room out)
+{
+    const uint32_t none = 0;
+    return cg_list(code, mesh.offsets, mesh.offsets_length, mesh.corners, mesh.corners_length, mesh.coords,
+                   mesh.coords_length, has_ratio, ratio, has_height, height, masks.has_arities,
+                   masks.has_arities ? masks.arities : &none, masks.has_arities ? masks.arities_length : 0,
+                   masks.regular, first.offsets, first.offsets_length, first.corners, first.corners_length,
+                   first.coords, first.coords_length, second.offsets, second.offsets_length, second.corners,
+                   second.corners_length, second.coords, second.coords_length, out.offsets, out.offsets_length,
+                   out.corners, out.corners_length, out.coords, out.coords_length);
+}
+
+static inline cg_masks cg_unmasked(void)
+{
+    cg_masks masks = {false, NULL, 0, false};
+    return masks;
+}
+
+static inline cg_answer cg_bevel(cg_mesh mesh, bool has_ratio, float ratio, bool has_height, float height,
+                                 cg_masks masks, cg_room first, cg_room second, cg_room out)
+{
+    return cg_list_of(CG_BEVEL, mesh, has_ratio, ratio, has_height, height, masks, first, second, out);
+}
+
+static inline cg_answer cg_expand(cg_mesh mesh, bool has_ratio, float ratio, cg_room first, cg_room second, cg_room out)
+{
+    return cg_list_of(CG_EXPAND, mesh, has_ratio, ratio, false, 0, cg_unmasked(), first, second, out);
+}
+
+static inline cg_answer cg_join(cg_mesh mesh, bool has_ratio, float ratio, cg_room first, cg_room second, cg_room out)
+{
+    return cg_list_of(CG_JOIN, mesh, has_ratio, ratio, false, 0, cg_unmasked(), first, second, out);
+}
+
+static inline cg_answer cg_medial(cg_mesh mesh, bool has_ratio, float ratio, bool has_height, float height,
+                                  cg_masks masks, cg_room first, cg_room second, cg_room out)
+{
+    return cg_list_of(CG_MEDIAL, mesh, has_ratio, ratio, has_height, height, masks, first, second, out);
+}
+
+static inline cg_answer cg_meta(cg_mesh mesh, bool has_ratio, float ratio, bool has_height, float height,
+                                cg_masks masks, cg_room first, cg_room second, cg_room out)
+{
+    return cg_list_of(CG_META, mesh, has_ratio, ratio, has_height, height, masks, first, second, out);
+}
+
+static inline cg_answer cg_needle(cg_mesh mesh, bool has_height, float height, cg_masks masks, cg_room first,
+                                  cg_room second, cg_room out)
+{
+    return cg_list_of(CG_NEEDLE, mesh, false, 0, has_height, height, masks, first, second, out);
+}
+
+static inline cg_answer cg_ortho(cg_mesh mesh, bool has_ratio, float ratio, cg_room first, cg_room second, cg_room out)
+{
+    return cg_list_of(CG_ORTHO, mesh, has_ratio, ratio, false, 0, cg_unmasked(), first, second, out);
+}
+
+static inline cg_answer cg_snub(cg_mesh mesh, bool has_ratio, float ratio, bool has_height, float height, cg_room first,
+                                cg_room second, cg_room out)
+{
+    return cg_list_of(CG_SNUB, mesh, has_ratio, ratio, has_height, height, cg_unmasked(), first, second, out);
+}
+
+static inline cg_answer cg_truncate(cg_mesh mesh, bool has_height, float height, cg_masks masks, cg_room first,
+                                    cg_room second, cg_room out)
+{
+    return cg_list_of(CG_TRUNCATE, mesh, false, 0, has_height, height, masks, first, second, out);
+}
+
+static inline cg_answer cg_zip(cg_mesh mesh, bool has_height, float height, cg_masks masks, cg_room first,
+                               cg_room second, cg_room out)
+{
+    return cg_list_of(CG_ZIP, mesh, false, 0, has_height, height, masks, first, second, out);
+}
 
 #ifdef __cplusplus
 }

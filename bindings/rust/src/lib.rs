@@ -15,16 +15,36 @@
 //! assert_eq!(refusal.to_string(), "8 at 5: edge from corner 5 was met before");
 //! # Ok::<(), crossglimmer::Refusal>(())
 //! ```
+//!
+//! Ten lists run several operators one after the other, such as [`Mesh::truncate`] and [`Mesh::snub`].
+//! [`Mesh::recipe`] runs up to sixteen [`Step`]s and hands back a [`Row`] of counts for each that was finished.
+//! A [`Panel`] is such steps and a mesh, and is read from and written to the bytes of a panel file.
+//!
+//! ```
+//! use crossglimmer::{ListMasks, Mesh, Panel, Step};
+//! let mesh = Mesh::tetrahedron().truncate(None, ListMasks::default())?;
+//! let file = Panel { steps: vec![Step::Kis(Some(0.2)), Step::Dual], mesh }.write()?;
+//!
+//! let Panel { steps, mesh } = Panel::read(&file)?;
+//! let (rows, made) = mesh.recipe(&steps);
+//! assert_eq!((rows[0].faces, rows[1].faces), (36, 20));
+//! assert_eq!(made?.positions(), 36);
+//! # Ok::<(), crossglimmer::Refusal>(())
+//! ```
 #![warn(missing_docs)]
 
 mod mesh;
+mod panel;
+mod recipe;
 mod refusal;
 pub mod slices;
 mod sys;
 
 pub use mesh::Mesh;
+pub use panel::{Filed, Panel};
+pub use recipe::{List, Row, Step};
 pub use refusal::Refusal;
-pub use slices::{Lent, Read};
+pub use slices::{Lent, ListMasks, Read, Work};
 
 /// The most positions, faces and corners that a mesh may have.
 pub const LIMIT: usize = 60_000;

@@ -135,15 +135,31 @@ impl Mesh {
         Ok(edges)
     }
 
+    /// Room for a mesh of these sizes.
+    pub(crate) fn room(sizes: Sizes) -> Mesh {
+        let [faces, corners, positions] = sizes;
+        Mesh { offsets: vec![0; faces + 1], corners: vec![0; corners], coords: vec![0.0; 3 * positions] }
+    }
+
+    /// Lends it to be written.
+    pub(crate) fn lent(&mut self) -> Lent<'_> {
+        Lent { offsets: &mut self.offsets, corners: &mut self.corners, coords: &mut self.coords }
+    }
+
+    /// Cuts the room to what was written.
+    pub(crate) fn cut(&mut self, sizes: Sizes) {
+        let [faces, corners, positions] = sizes;
+        self.offsets.truncate(faces + 1);
+        self.corners.truncate(corners);
+        self.coords.truncate(3 * positions);
+    }
+
     /// Makes room for a result, has it written and cuts the room to it.
-    fn written(sizes: Sizes, write: impl FnOnce(Lent) -> Result<Counts, Refusal>) -> Result<Mesh, Refusal> {
-        let [faces, corners, positions] = sizes.map(|size| size.min(LIMIT));
-        let mut mesh =
-            Mesh { offsets: vec![0; faces + 1], corners: vec![0; corners], coords: vec![0.0; 3 * positions] };
-        let counts = write(Lent { offsets: &mut mesh.offsets, corners: &mut mesh.corners, coords: &mut mesh.coords })?;
-        mesh.offsets.truncate(counts.faces as usize + 1);
-        mesh.corners.truncate(mesh.offsets.last().map_or(0, |corners| *corners as usize));
-        mesh.coords.truncate(3 * counts.positions as usize);
+    pub(crate) fn written(sizes: Sizes, write: impl FnOnce(Lent) -> Result<Counts, Refusal>) -> Result<Mesh, Refusal> {
+        let mut mesh = Mesh::room(sizes.map(|size| size.min(LIMIT)));
+        let counts = write(mesh.lent())?;
+        let corners = mesh.offsets.get(counts.faces as usize).map_or(0, |corners| *corners as usize);
+        mesh.cut([counts.faces as usize, corners, counts.positions as usize]);
         Ok(mesh)
     }
 

@@ -2,7 +2,7 @@
 use std::error::Error;
 use std::fmt;
 
-/// Why a call was refused. Nothing was written.
+/// Why a call was refused. No element of a result was written.
 ///
 /// The numbers are those of document 01's table; the place is an index or, for some numbers, a name.
 ///
@@ -17,14 +17,14 @@ use std::fmt;
 pub struct Refusal {
     /// 1 to 18.
     pub number: u32,
-    /// Where: an index, or 0 for faces, 1 for corners and the like.
+    /// Where: an index, 0 for faces, 1 for corners and the like, or in a file and in steps a byte.
     pub place: u32,
     /// In a list or a recipe the step, from 1; else 0.
     pub step: u32,
 }
 
 const SIZES: [&str; 4] = ["faces", "corners", "positions", "steps"];
-const RUNS: [&str; 4] = ["offsets", "corners", "coordinates", "ledger"];
+const RUNS: [&str; 4] = ["offsets, edges or bytes", "corners", "coordinates", "ledger or steps"];
 
 fn name(names: [&'static str; 4], place: u32) -> &'static str {
     names.get(place as usize).copied().unwrap_or("elements")
@@ -42,7 +42,7 @@ impl Refusal {
         match self.number {
             1 => format!("{} of wrong shape", if place == 0 { "offsets" } else { "coordinates" }),
             2 if place == 3 => "recipe has over 16 steps".to_string(),
-            2 => format!("mesh has over 60000 {}", name(SIZES, place)),
+            2 => format!("mesh has too many {}", name(SIZES, place)),
             3 => format!("{} is not finite", if place == 0 { "ratio" } else { "height" }),
             4 => format!("coordinate {place} is not finite"),
             5 => format!("face {place} has under three corners"),

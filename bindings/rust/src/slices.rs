@@ -1,5 +1,5 @@
 //! The functions over lent slices: nothing is allocated, and what a call writes stands at the front.
-use crate::{sys, Counts, Masks, Refusal};
+use crate::{sys, Counts, Filed, List, Masks, Refusal};
 
 /// A mesh to be read, as three slices. They may hold any numbers: a mesh that is not good is refused.
 #[derive(Clone, Copy, Debug)]
@@ -23,6 +23,25 @@ pub struct Lent<'a> {
     pub coords: &'a mut [f32],
 }
 
+/// Two work meshes lent to a list or a recipe: step 1 writes the first, step 2 the second, in turn, and the last step
+/// what is lent for the result. Whatever came of the call, every element of both reads 0 afterwards.
+#[derive(Debug)]
+pub struct Work<'a> {
+    /// What steps 1, 3, 5 and so on write.
+    pub first: Lent<'a>,
+    /// What steps 2, 4, 6 and so on write.
+    pub second: Lent<'a>,
+}
+
+/// Which faces kis picks in a list: those that each mask allows. Absent arities allow all, an empty list none.
+#[derive(Clone, Copy, Debug, Default)]
+pub struct ListMasks<'a> {
+    /// How many corners a face may have.
+    pub arities: Option<&'a [u32]>,
+    /// Only faces whose sides are nearly of one length.
+    pub regular: bool,
+}
+
 /// Calls a function of the library: the mesh, the numbers between, and the lent slices where there are some.
 macro_rules! call {
     ($function:ident, $mesh:expr, [$($number:expr),*]) => {{
@@ -42,11 +61,48 @@ macro_rules! call {
     }};
 }
 
+/// Calls a list or a recipe: what stands before the mesh, the mesh, the numbers between, the work meshes and the lent
+/// slices.
+macro_rules! carry {
+    ($function:ident, [$($before:expr),*], $mesh:expr, [$($number:expr),*], $work:expr, $out:expr) => {{
+        let Read { offsets, corners, coords } = $mesh;
+        let (Work { first: a, second: b }, z) = ($work, $out);
+        let [ao, ac, bo, bc, zo, zc] =
+            [a.offsets, a.corners, b.offsets, b.corners, z.offsets, z.corners].map(pointed);
+        let [ax, bx, zx] = [a.coords, b.coords, z.coords].map(pointed);
+        // SAFETY: as in `call`.
+        answered(unsafe {
+            sys::$function(
+                $($before,)*
+                offsets.as_ptr(), offsets.len(), corners.as_ptr(), corners.len(), coords.as_ptr(), coords.len(),
+                $($number,)*
+                ao.0, ao.1, ac.0, ac.1, ax.0, ax.1,
+                bo.0, bo.1, bc.0, bc.1, bx.0, bx.1,
+                zo.0, zo.1, zc.0, zc.1, zx.0, zx.1
+            )
+        })
+    }};
+}
+
+/// A lent slice as the library takes it.
+fn pointed<T>(lent: &mut [T]) -> (*mut T, usize) {
+    let length = lent.len();
+    (lent.as_mut_ptr(), length)
+}
+
 fn answered(answer: sys::Answer) -> Result<Counts, Refusal> {
     let sys::Answer { number, place, step, v, e, f } = answer;
     match number {
         0 => Ok(Counts { positions: v, edges: e, faces: f }),
         _ => Err(Refusal { number, place, step }),
+    }
+}
+
+fn filed(filing: sys::Filing) -> Result<Filed, Refusal> {
+    let sys::Filing { number, place, steps, positions, faces, corners } = filing;
+    match number {
+        0 => Ok(Filed { steps, positions, faces, corners }),
+        _ => Err(Refusal { number, place, step: 0 }),
     }
 }
 
@@ -272,4 +328,137 @@ pub fn whirl(mesh: Read, ratio: Option<f32>, height: Option<f32>, out: Lent) -> 
 /// ```
 pub fn quinto(mesh: Read, height: Option<f32>, out: Lent) -> Result<Counts, Refusal> {
     call!(cg_quinto, mesh, [height.is_some(), value(height)], out)
+}
+
+/// A list of operators. The ratio goes to each ambo and to gyro, the height to kis and gyro, the masks to kis; what the
+/// list's operators do not take is not looked at.
+///
+/// ```
+/// # use crossglimmer::{slices, Lent, List, ListMasks, Mesh, Work};
+/// let (mut offsets, mut corners, mut coords) = ([[7; 17]; 3], [[7; 84]; 3], [[7.0; 84]; 3]);
+/// let mut lent = offsets.iter_mut().zip(&mut corners).zip(&mut coords);
+/// let mut lend = || lent.next().map(|((offsets, corners), coords)| Lent { offsets, corners, coords }).unwrap();
+/// let work = Work { first: lend(), second: lend() };
+/// let counts = slices::list(
+///     List::Truncate,
+///     Mesh::tetrahedron().read(),
+///     None,
+///     Some(0.5),
+///     ListMasks::default(),
+///     work,
+///     lend(),
+/// )?;
+/// assert_eq!((counts.positions, counts.edges, counts.faces), (12, 18, 8));
+/// assert_eq!(offsets[2][counts.faces as usize], 36);
+/// assert_eq!((offsets[0], coords[1]), ([0; 17], [0.0; 84]));
+/// # Ok::<(), crossglimmer::Refusal>(())
+/// ```
+pub fn list(
+    list: List,
+    mesh: Read,
+    ratio: Option<f32>,
+    height: Option<f32>,
+    masks: ListMasks,
+    work: Work,
+    out: Lent,
+) -> Result<Counts, Refusal> {
+    let arities = masks.arities.unwrap_or(&[]);
+    carry!(
+        cg_list,
+        [list.code()],
+        mesh,
+        [
+            ratio.is_some(),
+            value(ratio),
+            height.is_some(),
+            value(height),
+            masks.arities.is_some(),
+            arities.as_ptr(),
+            arities.len(),
+            masks.regular
+        ],
+        work,
+        out
+    )
+}
+
+/// Runs up to sixteen steps, each given as [`Step::words`](crate::Step::words). Each finished step writes four numbers
+/// of the ledger: code, positions, edges, faces; on a refusal these stay, and the rest of the ledger is as it was.
+///
+/// ```
+/// # use crossglimmer::{slices, Lent, Mesh, Step, Work};
+/// let (mut offsets, mut corners, mut coords) = ([[7; 64]; 3], [[7; 256]; 3], [[7.0; 256]; 3]);
+/// let mut lent = offsets.iter_mut().zip(&mut corners).zip(&mut coords);
+/// let mut lend = || lent.next().map(|((offsets, corners), coords)| Lent { offsets, corners, coords }).unwrap();
+/// let work = Work { first: lend(), second: lend() };
+/// let steps = [Step::Gyro(None, None).words(), Step::Chamfer(None).words()];
+/// let mut ledger = [7; 9];
+/// let counts = slices::recipe(&steps, &mut ledger, Mesh::tetrahedron().read(), work, lend())?;
+/// assert_eq!((counts.positions, counts.edges, counts.faces), (80, 120, 42));
+/// assert_eq!(ledger, [4, 20, 30, 12, 2, 80, 120, 42, 7]);
+/// # Ok::<(), crossglimmer::Refusal>(())
+/// ```
+pub fn recipe(steps: &[[u32; 4]], ledger: &mut [u32], mesh: Read, work: Work, out: Lent) -> Result<Counts, Refusal> {
+    let (rows, numbers) = pointed(ledger);
+    carry!(cg_recipe, [steps.as_ptr(), steps.len(), rows, numbers], mesh, [], work, out)
+}
+
+/// Reads a panel file and writes its mesh, which is not checked.
+///
+/// ```
+/// # use crossglimmer::{slices, Lent, Mesh, Panel};
+/// let file = Panel { steps: vec![], mesh: Mesh::tetrahedron() }.write()?;
+/// let (mut offsets, mut corners, mut coords) = ([7; 6], [7; 13], [7.0; 13]);
+/// let out = Lent { offsets: &mut offsets, corners: &mut corners, coords: &mut coords };
+/// let filed = slices::panel_read(&file, out)?;
+/// assert_eq!((filed.steps, filed.positions, filed.faces, filed.corners), (0, 4, 4, 12));
+/// assert_eq!(offsets, [0, 3, 6, 9, 12, 7]);
+/// # Ok::<(), crossglimmer::Refusal>(())
+/// ```
+pub fn panel_read(bytes: &[u8], out: Lent) -> Result<Filed, Refusal> {
+    let [(o, no), (c, nc)] = [out.offsets, out.corners].map(pointed);
+    let (x, nx) = pointed(out.coords);
+    // SAFETY: as in `call`.
+    filed(unsafe { sys::cg_panel_read(bytes.as_ptr(), bytes.len(), o, no, c, nc, x, nx) })
+}
+
+/// Reads a panel file and writes its steps, each as [`Step::words`](crate::Step::words).
+///
+/// ```
+/// # use crossglimmer::{slices, Mesh, Panel, Step};
+/// let file = Panel { steps: vec![Step::Dual], mesh: Mesh::tetrahedron() }.write()?;
+/// let mut steps = [[7; 4]; 2];
+/// assert_eq!(slices::panel_steps(&file, &mut steps)?.steps, 1);
+/// assert_eq!(steps, [[3, 0, 0, 0], [7; 4]]);
+/// # Ok::<(), crossglimmer::Refusal>(())
+/// ```
+pub fn panel_steps(bytes: &[u8], out: &mut [[u32; 4]]) -> Result<Filed, Refusal> {
+    let (steps, length) = pointed(out);
+    // SAFETY: as in `call`.
+    filed(unsafe { sys::cg_panel_steps(bytes.as_ptr(), bytes.len(), steps, length) })
+}
+
+/// Writes steps and a mesh, of which only the shape is checked, as a panel file; hands back how many bytes it has.
+///
+/// ```
+/// # use crossglimmer::{slices, Mesh, Step};
+/// let mut out = [7; 200];
+/// let bytes = slices::panel_write(&[Step::Dual.words()], Mesh::tetrahedron().read(), &mut out)?;
+/// assert_eq!(bytes, 140);
+/// assert_eq!(out[..8], [1, 0, 0, 0, 3, 0, 0, 0]);
+/// # Ok::<(), crossglimmer::Refusal>(())
+/// ```
+pub fn panel_write(steps: &[[u32; 4]], mesh: Read, out: &mut [u8]) -> Result<usize, Refusal> {
+    let Read { offsets, corners, coords } = mesh;
+    let (o, no, c, nc) = (offsets.as_ptr(), offsets.len(), corners.as_ptr(), corners.len());
+    let (bytes, room) = pointed(out);
+    // SAFETY: as in `call`.
+    let writing = unsafe {
+        sys::cg_panel_write(steps.as_ptr(), steps.len(), o, no, c, nc, coords.as_ptr(), coords.len(), bytes, room)
+    };
+    let sys::Writing { number, place, bytes } = writing;
+    match number {
+        0 => Ok(bytes as usize),
+        _ => Err(Refusal { number, place, step: 0 }),
+    }
 }
