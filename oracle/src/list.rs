@@ -3,8 +3,8 @@ use crate::answer::{answer, Answer};
 use crate::calls;
 use crate::case::{Case, Function, Room};
 use crate::damage;
-use crate::files;
 use crate::kept;
+use crate::made_files;
 use crate::mesh::{Mesh, LIMIT};
 use crate::meshes;
 use crate::numbers;
@@ -31,7 +31,7 @@ pub fn answered_cases(code: u32) -> Vec<(Case, Answer)> {
         Function::Operator(operator) => operator_cases(operator, random),
         Function::List(list) => kept::list_cases(list, random),
         Function::Recipe => kept::recipe_cases(random),
-        Function::File => answered(files::fixed(random)),
+        Function::File => answered(made_files::fixed(random)),
         Function::Root => answered(root_cases(random)),
         check @ (Function::CheckClosed | Function::CheckFans) => check_cases(check, random),
         Function::Edges => edge_cases(random),

@@ -15,6 +15,7 @@ mod genus;
 mod kept;
 mod large;
 mod list;
+mod made_files;
 mod mesh;
 mod meshes;
 mod numbers;

@@ -1,13 +1,15 @@
 //! The panel file and the program `report`, read a second time from document 01.
+use crate::case::to_bytes;
+use crate::extra::step_words;
 use crate::mesh::{Face, Mesh, Point};
 use crate::meshes::AMPLE;
 use crate::operator::{Operator, Parameters};
 use crate::recipe::{self, Lent, RefusedAt, Row, Step, MOST_STEPS};
 use crate::table::Refusal;
 
-const MOST_POSITIONS: usize = 400;
-const MOST_FACES: usize = 400;
-const MOST_CORNERS: usize = 1200;
+pub const MOST_POSITIONS: usize = 400;
+pub const MOST_FACES: usize = 400;
+pub const MOST_CORNERS: usize = 1200;
 
 const RATIO_PRESENT: u32 = 1;
 const HEIGHT_PRESENT: u32 = 2;
@@ -67,7 +69,7 @@ impl Reader<'_> {
 }
 
 /// The step, unless its code is unknown, a flag forbidden or an absent number not zero.
-fn step_of([code, flags, ratio, height]: [u32; 4]) -> Option<Step> {
+pub fn step_of([code, flags, ratio, height]: [u32; 4]) -> Option<Step> {
     let operator = Operator::from_code(code)?;
     let mut allowed = 0;
     if operator.takes_ratio() {
@@ -110,6 +112,20 @@ pub fn read(bytes: &[u8]) -> Result<Panel, Refusal> {
         return refused(18, reader.at);
     }
     Ok(Panel { steps, mesh: Mesh::new(&faces, &points) })
+}
+
+/// The file of the steps and the mesh: each part after its count.
+pub fn write(steps: &[Step], mesh: &Mesh) -> Vec<u8> {
+    let mut words = vec![steps.len() as u32];
+    words.extend(steps.iter().flat_map(step_words));
+    words.push(mesh.position_count() as u32);
+    words.extend(mesh.coordinates.iter().map(|number| number.to_bits()));
+    words.push(mesh.face_count() as u32);
+    for run in mesh.runs() {
+        words.push(run.len() as u32);
+        words.extend(run);
+    }
+    to_bytes(&words)
 }
 
 /// What `report` prints for a file.

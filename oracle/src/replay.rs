@@ -107,14 +107,23 @@ impl Comparison {
     }
 }
 
+/// The program itself, or `RUNNER`, an emulator, with the program as its argument.
+fn command(program: &Path) -> Command {
+    match std::env::var("RUNNER") {
+        Ok(runner) if !runner.is_empty() => {
+            let mut command = Command::new(runner);
+            command.arg(program);
+            command
+        }
+        _ => Command::new(program),
+    }
+}
+
 /// Runs a program on an input and hands back what it prints.
 pub fn run_program(program: &Path, input: &[u8]) -> Result<String, String> {
     let failed = |error: std::io::Error| format!("{}: {error}", program.display());
-    let mut child = Command::new(program)
-        .stdin(Stdio::piped())
-        .stdout(Stdio::piped())
-        .spawn()
-        .map_err(failed)?;
+    let mut child =
+        command(program).stdin(Stdio::piped()).stdout(Stdio::piped()).spawn().map_err(failed)?;
     let mut to = child.stdin.take().expect("piped");
     let mut output = Vec::new();
     std::thread::scope(|scope| {

@@ -35,19 +35,19 @@ fn text(error: std::io::Error) -> String {
 }
 
 fn all() -> Vec<(&'static str, Vec<u8>)> {
-    let geodesic = file(&[plain(Dual), raised(Kis, 0.05)], &geodesic(2));
+    let geodesic = panel::write(&[plain(Dual), raised(Kis, 0.05)], &geodesic(2));
     let damaged = geodesic[..geodesic.len() / 2].to_vec();
     vec![
-        ("tetrahedron", file(&[plain(Gyro), plain(Chamfer)], &shapes::tetrahedron())),
-        ("cube", file(&[raised(Kis, 0.5), plain(Propellor)], &cube())),
-        ("octahedron", file(&[plain(Ambo), cut(Whirl, 0.25)], &octahedron())),
-        ("dodecahedron", file(&[raised(Quinto, 0.5), plain(Dual)], &dodecahedron())),
-        ("icosahedron", file(&[plain(Dual), cut(Chamfer, 0.4)], &icosahedron())),
+        ("tetrahedron", panel::write(&[plain(Gyro), plain(Chamfer)], &shapes::tetrahedron())),
+        ("cube", panel::write(&[raised(Kis, 0.5), plain(Propellor)], &cube())),
+        ("octahedron", panel::write(&[plain(Ambo), cut(Whirl, 0.25)], &octahedron())),
+        ("dodecahedron", panel::write(&[raised(Quinto, 0.5), plain(Dual)], &dodecahedron())),
+        ("icosahedron", panel::write(&[plain(Dual), cut(Chamfer, 0.4)], &icosahedron())),
         ("geodesic", geodesic),
-        ("torus", file(&[plain(Whirl), plain(Propellor)], &shapes::torus(12, 16))),
-        ("two-spheres", file(&[plain(Gyro), plain(Quinto)], &two_spheres())),
-        ("shared-hub", file(&[plain(Gyro), plain(Dual)], &shared_hub())),
-        ("open-shell", file(&[plain(Triangulate), plain(Chamfer)], &open_shell())),
+        ("torus", panel::write(&[plain(Whirl), plain(Propellor)], &shapes::torus(12, 16))),
+        ("two-spheres", panel::write(&[plain(Gyro), plain(Quinto)], &two_spheres())),
+        ("shared-hub", panel::write(&[plain(Gyro), plain(Dual)], &shared_hub())),
+        ("open-shell", panel::write(&[plain(Triangulate), plain(Chamfer)], &open_shell())),
         ("damaged", damaged),
     ]
 }
@@ -64,27 +64,6 @@ fn cut(operator: Operator, ratio: f32) -> Step {
 
 fn raised(operator: Operator, height: f32) -> Step {
     Step { operator, parameters: Parameters { height: Some(height), ..Parameters::default() } }
-}
-
-// ---- the file
-
-/// The panel file of a recipe and a mesh.
-fn file(steps: &[Step], mesh: &Mesh) -> Vec<u8> {
-    let mut words = vec![steps.len() as u32];
-    for Step { operator, parameters } in steps {
-        let Parameters { ratio, height, .. } = parameters;
-        let flags = ratio.is_some() as u32 + 2 * height.is_some() as u32;
-        words.extend([operator.code(), flags]);
-        words.extend([ratio, height].map(|number| number.map_or(0, f32::to_bits)));
-    }
-    words.push(mesh.position_count() as u32);
-    words.extend(mesh.coordinates.iter().map(|number| number.to_bits()));
-    words.push(mesh.face_count() as u32);
-    for run in mesh.runs() {
-        words.push(run.len() as u32);
-        words.extend(run);
-    }
-    words.into_iter().flat_map(u32::to_le_bytes).collect()
 }
 
 // ---- meshes

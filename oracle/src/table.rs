@@ -46,7 +46,7 @@ fn check(mesh: &Mesh, parts: &[&[(u32, Rule)]]) -> Result<(), Refusal> {
     Ok(())
 }
 
-fn refuse_where(number: u32, place: Option<usize>) -> Result<(), Refusal> {
+pub fn refuse_where(number: u32, place: Option<usize>) -> Result<(), Refusal> {
     match place {
         Some(place) => Err(Refusal { number, place: place as u32 }),
         None => Ok(()),
@@ -113,7 +113,8 @@ pub fn check_result(result: &Mesh) -> Result<(), Refusal> {
     refuse_where(14, coordinate_not_finite(result))
 }
 
-fn wrong_shape(mesh: &Mesh) -> Option<usize> {
+/// Number 1.
+pub fn wrong_shape(mesh: &Mesh) -> Option<usize> {
     [has_wrong_offsets(mesh), mesh.coordinates.len() % 3 != 0].iter().position(|wrong| *wrong)
 }
 

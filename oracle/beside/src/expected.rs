@@ -1,44 +1,64 @@
 //! What a call must come to: the table decides, and what it lets through is the Rust text's.
-use crate::answer;
+use crate::answer::{self, lent};
 use crate::case::{Case, Function};
+use crate::expected_runs as runs;
+use crate::made::{Call, Entry};
 use crate::mesh::Mesh;
-use crate::outcome::{bits, lent, Outcome};
+use crate::outcome::{bits, Outcome};
+use crate::recipe::RefusedAt;
 use crate::rust_side;
 use crate::table::{self, Refusal};
 
-pub fn outcome(case: &Case) -> Outcome {
+pub fn outcome(call: &Call) -> Outcome {
+    let case = &call.case;
+    match call.entry {
+        Entry::Named => named(case),
+        Entry::FileSteps => runs::file_steps(case),
+        Entry::FileWrite => runs::file_write(case),
+    }
+}
+
+fn named(case: &Case) -> Outcome {
     let mesh = &case.mesh;
     match case.function {
         Function::Operator(operator) => {
             let result = answer::call(operator, &case.parameters, mesh, case.room);
-            mesh_outcome(result.map_err(|refusal| (refusal, 0)), case)
+            mesh_outcome(result.map_err(at_no_step), case)
         }
         Function::CheckClosed => check_outcome(table::check_closed(mesh)),
         Function::CheckFans => check_outcome(table::check_fans(mesh)),
         Function::Edges => edges_outcome(case),
+        Function::List(list) => runs::list(list, case),
+        Function::Recipe => runs::recipe(case),
+        Function::File => runs::file(case),
         other => unreachable!("{} is not made", other.name()),
     }
 }
 
-fn mesh_outcome(result: Result<Mesh, (Refusal, usize)>, case: &Case) -> Outcome {
-    let refusal = result.as_ref().err().copied();
-    let counts = result.as_ref().map_or([0; 3], Mesh::counts);
-    let written = result.unwrap_or_default();
+pub fn at_no_step(refusal: Refusal) -> RefusedAt {
+    RefusedAt { step: 0, refusal }
+}
+
+/// A call that makes a mesh.
+pub fn mesh_outcome(result: Result<Mesh, RefusedAt>, case: &Case) -> Outcome {
+    let counts = result.as_ref().map_or(Vec::new(), |mesh| mesh.counts().to_vec());
+    let refusal = result.as_ref().err().map(|refused| (refused.refusal, refused.step));
+    Outcome { refusal, counts, slices: lent_mesh(&result.unwrap_or_default(), case) }
+}
+
+/// The lent output after a call that wrote the mesh.
+pub fn lent_mesh(written: &Mesh, case: &Case) -> Vec<(&'static str, Vec<u32>)> {
     let (room, fill) = (case.room, case.fill);
-    let slices = vec![
+    vec![
         ("offset", lent(&written.offsets, room.offsets, fill)),
         ("corner", lent(&written.corners, room.corners, fill)),
         ("coordinate", lent(&bits(&written.coordinates), room.coordinates, fill)),
-    ];
-    Outcome { refusal, counts, slices }
+    ]
 }
 
 fn check_outcome(checked: Result<(), Refusal>) -> Outcome {
-    Outcome {
-        refusal: checked.err().map(|refusal| (refusal, 0)),
-        counts: [0; 3],
-        slices: Vec::new(),
-    }
+    let refusal = checked.err().map(|refusal| (refusal, 0));
+    Outcome { refusal, counts: Vec::new(), slices: Vec::new() }
 }
 
 /// The room of offsets is the room for pairs.
@@ -53,7 +73,8 @@ fn edges_outcome(case: &Case) -> Outcome {
         }
     });
     let refusal = listed.as_ref().err().map(|refusal| (*refusal, 0));
+    let counts = listed.as_ref().map_or(Vec::new(), |edges| vec![edges.len()]);
     let edges = listed.unwrap_or_default();
     let slices = vec![("edge word", lent(&edges.concat(), 2 * pairs, case.fill))];
-    Outcome { refusal, counts: [0, edges.len(), 0], slices }
+    Outcome { refusal, counts, slices }
 }

@@ -1,20 +1,36 @@
 //! The same call of the proved library, through its Rust crate, on slices lent with a fill.
-use crate::case::{Case, Function};
+use crate::case::{Case, Function, Room};
+use crate::library_runs as runs;
+use crate::made::{Call, Entry};
 use crate::mesh::Mesh;
 use crate::operator::Operator;
-use crate::outcome::{bits, Outcome};
+use crate::outcome::{bits, filled, Outcome};
 use crate::table::Refusal;
 use crossglimmer::{slices, Counts, Lent, Masks, Read};
 
-pub fn outcome(case: &Case) -> Outcome {
+pub fn outcome(call: &Call) -> Outcome {
+    let case = &call.case;
+    match call.entry {
+        Entry::Named => named(case),
+        Entry::FileSteps => runs::file_steps(case),
+        Entry::FileWrite => runs::file_write(case),
+    }
+}
+
+fn named(case: &Case) -> Outcome {
     let mesh = read(&case.mesh);
     match case.function {
         Function::Operator(operator) => {
-            lent_outcome(case, |out| operate(operator, case, mesh, out))
+            let mut out = Slices::new(case.room, case.fill);
+            let answer = operate(operator, case, mesh, out.lent());
+            made(answer, out.named("offset", "corner", "coordinate"))
         }
         Function::CheckClosed => check_outcome(slices::check(mesh)),
         Function::CheckFans => check_outcome(slices::check_full(mesh)),
         Function::Edges => edges_outcome(case),
+        Function::List(list) => runs::list(list, case),
+        Function::Recipe => runs::recipe(case),
+        Function::File => runs::file(case),
         other => unreachable!("{} is not made", other.name()),
     }
 }
@@ -24,7 +40,7 @@ pub fn read(mesh: &Mesh) -> Read<'_> {
 }
 
 /// An operator of the library with a case's numbers and masks.
-pub fn operate(
+fn operate(
     operator: Operator,
     case: &Case,
     mesh: Read,
@@ -52,47 +68,63 @@ pub fn operate(
     }
 }
 
-/// What lent slices start from.
-fn filled(length: usize, fill: u32) -> Vec<u32> {
-    (0..length).map(|index| fill.wrapping_add(index as u32)).collect()
+/// The three slices of a mesh that is lent.
+pub struct Slices {
+    offsets: Vec<u32>,
+    corners: Vec<u32>,
+    coords: Vec<f32>,
 }
 
-fn floats(length: usize, fill: u32) -> Vec<f32> {
-    filled(length, fill).into_iter().map(f32::from_bits).collect()
+impl Slices {
+    pub fn new(room: Room, fill: u32) -> Slices {
+        let Room { offsets, corners, coordinates } = room;
+        Slices {
+            offsets: filled(offsets, fill),
+            corners: filled(corners, fill),
+            coords: filled(coordinates, fill).into_iter().map(f32::from_bits).collect(),
+        }
+    }
+
+    pub fn lent(&mut self) -> Lent<'_> {
+        let Slices { offsets, corners, coords } = self;
+        Lent { offsets, corners, coords }
+    }
+
+    pub fn named(
+        self,
+        offset: &'static str,
+        corner: &'static str,
+        coordinate: &'static str,
+    ) -> Vec<(&'static str, Vec<u32>)> {
+        vec![(offset, self.offsets), (corner, self.corners), (coordinate, bits(&self.coords))]
+    }
 }
 
-fn refused(refusal: crossglimmer::Refusal) -> (Refusal, usize) {
+pub fn refused(refusal: crossglimmer::Refusal) -> (Refusal, usize) {
     let crossglimmer::Refusal { number, place, step } = refusal;
     (Refusal { number, place }, step as usize)
 }
 
-/// Lends an output of the case's room.
-fn lent_outcome(
-    case: &Case,
-    call: impl FnOnce(Lent) -> Result<Counts, crossglimmer::Refusal>,
+/// A call that makes a mesh.
+pub fn made(
+    answer: Result<Counts, crossglimmer::Refusal>,
+    slices: Vec<(&'static str, Vec<u32>)>,
 ) -> Outcome {
-    let (room, fill) = (case.room, case.fill);
-    let (mut offsets, mut corners) = (filled(room.offsets, fill), filled(room.corners, fill));
-    let mut coords = floats(room.coordinates, fill);
-    let answer = call(Lent { offsets: &mut offsets, corners: &mut corners, coords: &mut coords });
-    let slices = vec![("offset", offsets), ("corner", corners), ("coordinate", bits(&coords))];
-    let counts =
-        answer.map_or([0; 3], |c| [c.positions, c.edges, c.faces].map(|count| count as usize));
+    let counts = answer.map_or(Vec::new(), |Counts { positions, edges, faces }| {
+        [positions, edges, faces].map(|count| count as usize).to_vec()
+    });
     Outcome { refusal: answer.err().map(refused), counts, slices }
 }
 
 fn check_outcome(checked: Result<(), crossglimmer::Refusal>) -> Outcome {
-    Outcome { refusal: checked.err().map(refused), counts: [0; 3], slices: Vec::new() }
+    Outcome { refusal: checked.err().map(refused), counts: Vec::new(), slices: Vec::new() }
 }
 
 fn edges_outcome(case: &Case) -> Outcome {
     let words = filled(2 * case.room.offsets, case.fill);
     let mut pairs: Vec<[u32; 2]> = words.chunks(2).map(|pair| [pair[0], pair[1]]).collect();
     let listed = slices::edges(read(&case.mesh), &mut pairs);
-    let counts = [0, listed.unwrap_or(0), 0];
-    Outcome {
-        refusal: listed.err().map(refused),
-        counts,
-        slices: vec![("edge word", pairs.concat())],
-    }
+    let counts = listed.map_or(Vec::new(), |edges| vec![edges]);
+    let slices = vec![("edge word", pairs.concat())];
+    Outcome { refusal: listed.err().map(refused), counts, slices }
 }

@@ -15,16 +15,26 @@ mod case;
 mod coordinates;
 #[path = "../../src/damage.rs"]
 mod damage;
+#[path = "../../src/extra.rs"]
+mod extra;
+#[path = "../../src/made_files.rs"]
+mod made_files;
 #[path = "../../src/mesh.rs"]
 mod mesh;
 #[path = "../../src/meshes.rs"]
 mod meshes;
 #[path = "../../src/operator.rs"]
 mod operator;
+#[path = "../../src/panel.rs"]
+mod panel;
 #[path = "../../src/random.rs"]
 mod random;
 #[path = "../../src/recipe.rs"]
 mod recipe;
+#[path = "../../src/run_answer.rs"]
+mod run_answer;
+#[path = "../../src/runs.rs"]
+mod runs;
 #[path = "../../src/rust_side.rs"]
 mod rust_side;
 #[path = "../../src/shapes.rs"]
@@ -37,14 +47,17 @@ mod table;
 mod tally;
 
 mod expected;
+mod expected_runs;
 mod library;
+mod library_runs;
 mod made;
 mod outcome;
 mod shrink;
 
-use case::Case;
+use made::{Call, Entry};
 use outcome::Outcome;
 use random::Random;
+use std::collections::BTreeMap;
 use std::time::Instant;
 use tally::Tally;
 
@@ -76,51 +89,85 @@ fn options() -> Result<Options, String> {
 }
 
 /// Call `index` of a seed: each is made from numbers of its own.
-fn call(seed: u64, index: u64) -> Case {
-    made::case(&mut Random::new(seed.wrapping_shl(40).wrapping_add(index)), index)
+fn call(seed: u64, index: u64) -> Call {
+    made::call(&mut Random::new(seed.wrapping_shl(40).wrapping_add(index)), index)
 }
 
 /// Where the two sides differ, as text.
-fn difference(case: &Case) -> Option<String> {
-    outcome::difference(&expected::outcome(case), &library::outcome(case))
+fn difference(call: &Call) -> Option<String> {
+    outcome::difference(&expected::outcome(call), &library::outcome(call))
 }
 
-fn report(case: &Case, index: u64, seed: u64) -> String {
-    let small = shrink::smallest(case, |case| difference(case).is_some());
+fn report(call: &Call, index: u64, seed: u64) -> String {
+    let with = |case: &case::Case| Call { case: case.clone(), ..*call };
+    let small = with(&shrink::smallest(&call.case, |case| difference(&with(case)).is_some()));
     let what = difference(&small).unwrap_or_default();
     format!(
         "call {index} of seed {seed} differs; the smallest case found:\n{}{what}",
-        show::case(&small)
+        shown(&small)
     )
+}
+
+fn shown(call: &Call) -> String {
+    format!("{}{}", heading(call.entry), show::case(&call.case))
+}
+
+fn heading(entry: Entry) -> &'static str {
+    match entry {
+        Entry::Named => "",
+        Entry::FileSteps => "the steps of a file:\n",
+        Entry::FileWrite => "the writing of a file:\n",
+    }
+}
+
+/// What was compared.
+#[derive(Default)]
+struct Compared {
+    tallies: BTreeMap<Entry, Tally>,
+    done: u64,
+    library_seconds: f64,
+}
+
+impl Compared {
+    fn count(&mut self, call: &Call, outcome: &Outcome) {
+        self.done += u64::from(outcome.refusal.is_none());
+        self.tallies.entry(call.entry).or_default().count(&call.case, outcome.counted());
+    }
+
+    /// Compares one call; an error tells of a difference.
+    fn compare(&mut self, call: &Call, index: u64, seed: u64) -> Result<(), String> {
+        let expected = expected::outcome(call);
+        let before = Instant::now();
+        let given = library::outcome(call);
+        self.library_seconds += before.elapsed().as_secs_f64();
+        if outcome::difference(&expected, &given).is_some() {
+            return Err(report(call, index, seed));
+        }
+        self.count(call, &expected);
+        Ok(())
+    }
 }
 
 fn run() -> Result<(), String> {
     let Options { calls, seed, only } = options()?;
     if let Some(index) = only {
-        let case = call(seed, index);
-        print!("{}", show::case(&case));
-        return difference(&case).map_or(Ok(()), |_| Err(report(&case, index, seed)));
+        let call = call(seed, index);
+        print!("{}", shown(&call));
+        return difference(&call).map_or(Ok(()), |_| Err(report(&call, index, seed)));
     }
     let started = Instant::now();
-    let (mut tally, mut done, mut library_time) = (Tally::default(), 0_u64, 0.0);
+    let mut compared = Compared::default();
     for index in 0..calls {
-        let case = call(seed, index);
-        let expected = expected::outcome(&case);
-        let before = Instant::now();
-        let given = library::outcome(&case);
-        library_time += before.elapsed().as_secs_f64();
-        if outcome::difference(&expected, &given).is_some() {
-            return Err(report(&case, index, seed));
-        }
-        done += u64::from(expected.refusal.is_none());
-        tally.count(&case, Outcome::counted(&expected));
+        compared.compare(&call(seed, index), index, seed)?;
     }
     let seconds = started.elapsed().as_secs_f64();
-    println!(
-        "{tally}{calls} calls ({done} done, {} refused), 0 differences, {seconds:.0} s",
-        calls - done
-    );
-    println!("of these {library_time:.0} s in the library");
+    for (entry, tally) in &compared.tallies {
+        print!("{}{tally}", heading(*entry));
+    }
+    let Compared { done, library_seconds, .. } = compared;
+    let refused = calls - done;
+    println!("{calls} calls ({done} done, {refused} refused), 0 differences, {seconds:.0} s");
+    println!("of these {library_seconds:.0} s in the library");
     Ok(())
 }
 

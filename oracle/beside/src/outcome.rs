@@ -6,8 +6,8 @@ use crate::table::Refusal;
 #[derive(Clone, Debug, PartialEq)]
 pub struct Outcome {
     pub refusal: Option<(Refusal, usize)>,
-    /// V, E and F.
-    pub counts: [usize; 3],
+    /// What a call that is done counts: V, E, F of a mesh; none of a refused call.
+    pub counts: Vec<usize>,
     pub slices: Vec<(&'static str, Vec<u32>)>,
 }
 
@@ -21,7 +21,7 @@ impl Outcome {
 fn answer_text(outcome: &Outcome) -> String {
     match outcome.refusal {
         Some((Refusal { number, place }, step)) => format!("{number} at {place}, step {step}"),
-        None => format!("done, V E F {:?}", outcome.counts),
+        None => format!("done, counts {:?}", outcome.counts),
     }
 }
 
@@ -48,12 +48,20 @@ pub fn difference(expected: &Outcome, given: &Outcome) -> Option<String> {
     Some("  the slices differ in number".to_string())
 }
 
-/// A lent slice after a call: what was written, then the fill as it was.
-pub fn lent(written: &[u32], length: usize, fill: u32) -> Vec<u32> {
-    let untouched = (written.len()..length).map(|index| fill.wrapping_add(index as u32));
-    written.iter().copied().chain(untouched).collect()
+/// What lent slices start from.
+pub fn filled(length: usize, fill: u32) -> Vec<u32> {
+    (0..length).map(|index| fill.wrapping_add(index as u32)).collect()
+}
+
+pub fn filled_bytes(length: usize, fill: u32) -> Vec<u8> {
+    filled(length, fill).into_iter().map(|number| number as u8).collect()
 }
 
 pub fn bits(numbers: &[f32]) -> Vec<u32> {
     numbers.iter().map(|number| number.to_bits()).collect()
+}
+
+/// Bytes as numbers.
+pub fn numbers(bytes: &[u8]) -> Vec<u32> {
+    bytes.iter().map(|byte| u32::from(*byte)).collect()
 }

@@ -1,5 +1,6 @@
 //! The smallest case that can be made of one that differs: faces and positions dropped, numbers made plain.
 use crate::case::{Case, Room};
+use crate::extra::Extra;
 use crate::mesh::Mesh;
 use crate::meshes::AMPLE;
 use crate::operator::Parameters;
@@ -25,7 +26,41 @@ fn changes(case: &Case) -> impl Iterator<Item = Case> + '_ {
     let rooms = rooms(case.room).map(move |room| Case { room, ..case.clone() });
     let fills = (case.fill != 0).then(|| Case { fill: 0, ..case.clone() });
     let numbers = rounded(&case.mesh).map(move |mesh| Case { mesh, ..case.clone() });
-    meshes.chain(parameters).chain(rooms).chain(fills).chain(numbers)
+    let extras = smaller_extras(&case.extra).map(move |extra| Case { extra, ..case.clone() });
+    meshes.chain(extras).chain(parameters).chain(rooms).chain(fills).chain(numbers)
+}
+
+/// Fewer steps, plainer numbers in them, fewer bytes of a file, and work meshes with room enough.
+fn smaller_extras(extra: &Extra) -> impl Iterator<Item = Extra> + '_ {
+    let steps = without_parts(&extra.steps).map(move |steps| Extra { steps, ..extra.clone() });
+    let files = without_parts(&extra.file).map(move |file| Extra { file, ..extra.clone() });
+    let plain = extra.steps.iter().enumerate().flat_map(move |(at, step)| {
+        plainer(&step.parameters).map(move |parameters| {
+            let mut extra = extra.clone();
+            extra.steps[at].parameters = parameters;
+            extra
+        })
+    });
+    let work = (0..2).flat_map(move |at| {
+        rooms(extra.work[at]).map(move |room| {
+            let mut extra = extra.clone();
+            extra.work[at] = room;
+            extra
+        })
+    });
+    steps.chain(files).chain(plain).chain(work)
+}
+
+/// The items without a half, a quarter and so on down to one of them.
+fn without_parts<T: Clone>(items: &[T]) -> impl Iterator<Item = Vec<T>> + '_ {
+    let sizes = std::iter::successors(Some(items.len()), |size| Some(size / 2));
+    let sizes = sizes.take_while(|size| *size > 0);
+    sizes.flat_map(move |size| {
+        (0..items.len()).step_by(size).map(move |start| {
+            let end = items.len().min(start + size);
+            [&items[..start], &items[end..]].concat()
+        })
+    })
 }
 
 fn smaller_meshes(mesh: &Mesh) -> impl Iterator<Item = Mesh> + '_ {
@@ -150,6 +185,14 @@ mod tests {
     use super::*;
     use crate::case::Function;
     use crate::shapes;
+
+    #[test]
+    fn one_byte_is_left() {
+        let mut case = Case::new(Function::File, Mesh::default());
+        case.extra.file = (0..100).collect();
+        let small = smallest(&case, |case| case.extra.file.contains(&77));
+        assert_eq!(small.extra.file, [77]);
+    }
 
     #[test]
     fn a_pentagon_is_left() {
