@@ -3,8 +3,17 @@ use crate::mesh::Mesh;
 use crate::sides::Room;
 use std::os::raw::c_void;
 
-type Hand =
-    unsafe extern "C" fn(*const u32, usize, *const u32, usize, *const f32, usize, *mut u32, *mut u32, *mut f32) -> bool;
+type Hand = unsafe extern "C" fn(
+    *const u32,
+    usize,
+    *const u32,
+    usize,
+    *const f32,
+    usize,
+    *mut u32,
+    *mut u32,
+    *mut f32,
+) -> bool;
 
 extern "C" {
     fn limit_gyro(

@@ -53,12 +53,15 @@ struct Vertices {
 
 impl Vertices {
     fn number(&mut self, face: [usize; 3], weights: [usize; 3]) -> u32 {
-        let mut key: Vec<(usize, usize)> = face.into_iter().zip(weights).filter(|part| part.1 > 0).collect();
+        let mut key: Vec<(usize, usize)> =
+            face.into_iter().zip(weights).filter(|part| part.1 > 0).collect();
         key.sort_unstable();
         let points = &mut self.points;
         *self.numbers.entry(key).or_insert_with_key(|key| {
             let corners = corners();
-            let sum = |field: usize| key.iter().map(|(v, weight)| corners[*v][field] * *weight as f32).sum::<f32>();
+            let sum = |field: usize| {
+                key.iter().map(|(v, weight)| corners[*v][field] * *weight as f32).sum::<f32>()
+            };
             let point = [sum(0), sum(1), sum(2)];
             let length = point.iter().map(|number| number * number).sum::<f32>().sqrt();
             points.push(point.map(|number| number / length));

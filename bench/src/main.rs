@@ -18,6 +18,16 @@ mod tables;
 const STACK: usize = 1 << 30;
 
 fn main() {
-    let pool = rayon::ThreadPoolBuilder::new().num_threads(1).stack_size(STACK).build().expect("one thread");
-    pool.install(tables::print);
+    let part = std::env::args().nth(1).unwrap_or_default();
+    let known = tables::PARTS.iter().find(|(name, _)| *name == part);
+    let (_, print) = known.unwrap_or_else(|| {
+        eprintln!("bench: name a part: {}", tables::PARTS.map(|(name, _)| name).join(", "));
+        std::process::exit(2);
+    });
+    let pool = rayon::ThreadPoolBuilder::new()
+        .num_threads(1)
+        .stack_size(STACK)
+        .build()
+        .expect("one thread");
+    pool.install(print);
 }

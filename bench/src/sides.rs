@@ -1,7 +1,8 @@
-//! One operator on one mesh: the seconds of each side, whose results must be the same bits.
+//! One operator or list on one mesh: the seconds of each side, whose results must be the same bits.
 use crate::byhand;
 use crate::mesh::{Mesh, LIMIT};
-use crate::operators::Operator;
+use crate::operators::Operation;
+use crossglimmer::slices::Work;
 use crossglimmer::{Counts, Lent, Read};
 use polyhedron_ops::{Point, Polyhedron};
 
@@ -28,10 +29,34 @@ impl Room {
     }
 }
 
+/// The output, and the two work meshes of a list.
+pub struct Rooms {
+    output: Room,
+    work: [Room; 2],
+}
+
+impl Rooms {
+    fn new() -> Rooms {
+        Rooms { output: Room::new(), work: [Room::new(), Room::new()] }
+    }
+
+    pub fn out(&mut self) -> Lent<'_> {
+        self.output.lent()
+    }
+
+    pub fn all(&mut self) -> (Work<'_>, Lent<'_>) {
+        let [first, second] = &mut self.work;
+        (Work { first: first.lent(), second: second.lent() }, self.output.lent())
+    }
+}
+
 /// Seconds, and what the call takes beside them.
 pub struct Times {
     pub library: f64,
+    /// The Rust text on a mesh of its own, in place.
     pub text: f64,
+    /// The same with the copy that keeps its input, as the library's call does.
+    pub kept: f64,
     pub hand: Option<f64>,
     pub stack: usize,
     pub lent: usize,
@@ -41,26 +66,35 @@ pub fn read(mesh: &Mesh) -> Read<'_> {
     Read { offsets: &mesh.offsets, corners: &mesh.corners, coords: &mesh.coordinates }
 }
 
-/// The least time of up to nine runs, fewer where they are long, and what the last of them left.
-fn least_with<T>(mut prepare: impl FnMut() -> T, mut run: impl FnMut(&mut T)) -> (f64, T) {
+/// Runs up to nine times, fewer where the runs are long; each says its seconds, and the least is handed back.
+fn least(mut run: impl FnMut() -> f64) -> f64 {
     const ENOUGH: f64 = 0.4;
-    let mut made = prepare();
     let (mut best, mut spent) = (f64::INFINITY, 0.0);
-    for again in (0..9).rev() {
-        let started = byhand::clock();
-        run(&mut made);
-        let time = byhand::clock() - started;
+    for _ in 0..9 {
+        let time = run();
         (best, spent) = (best.min(time), spent + time);
-        if spent > ENOUGH || again == 0 {
+        if spent > ENOUGH {
             break;
         }
-        made = prepare();
     }
-    (best, made)
+    best
 }
 
-pub fn least(mut run: impl FnMut()) -> f64 {
-    least_with(|| (), |()| run()).0
+fn timed(run: impl FnOnce()) -> f64 {
+    let started = byhand::clock();
+    run();
+    byhand::clock() - started
+}
+
+/// The least time of a call, and the most stack that one of the runs took.
+pub fn time_and_stack(mut call: impl FnMut()) -> (f64, usize) {
+    let mut stack = 0;
+    let time = least(|| {
+        let mut time = 0.0;
+        stack = stack.max(byhand::stack(&mut || time = timed(&mut call)));
+        time
+    });
+    (time, stack)
 }
 
 fn polyhedron(mesh: &Mesh) -> Polyhedron {
@@ -74,33 +108,49 @@ fn made(polyhedron: &Polyhedron) -> Mesh {
 }
 
 fn same(ours: &Mesh, theirs: &Mesh) -> bool {
-    let bits = |mesh: &Mesh| mesh.coordinates.iter().map(|number| number.to_bits()).collect::<Vec<_>>();
+    let bits =
+        |mesh: &Mesh| mesh.coordinates.iter().map(|number| number.to_bits()).collect::<Vec<_>>();
     ours.offsets == theirs.offsets && ours.corners == theirs.corners && bits(ours) == bits(theirs)
 }
 
-pub fn measure(operator: &Operator, mesh: &Mesh) -> Times {
-    let mut room = Room::new();
+/// The Rust text: its own time, and that of the copy before it.
+fn time_text(operation: &Operation, mesh: &Mesh, result: &Mesh) -> (f64, f64) {
+    let input = polyhedron(mesh);
+    let copying = least(|| {
+        let mut copy = None;
+        timed(|| copy = Some(input.clone()))
+    });
+    let mut copy = input.clone();
+    let text = least(|| {
+        copy = input.clone();
+        timed(|| {
+            (operation.text)(&mut copy);
+        })
+    });
+    assert!(same(result, &made(&copy)), "{} differs from the Rust text", operation.name);
+    (text, copying)
+}
+
+pub fn measure(operation: &Operation, mesh: &Mesh) -> Times {
+    let mut rooms = Rooms::new();
     let mut counts = Counts::default();
-    let library = least(|| counts = (operator.library)(read(mesh), room.lent()).expect("a mesh that is accepted"));
+    let (library, stack) = time_and_stack(|| {
+        counts = (operation.library)(read(mesh), &mut rooms).expect("a mesh that is accepted")
+    });
     let (faces, positions) = (counts.faces as usize, counts.positions as usize);
-    let result = room.mesh(faces, positions);
+    let result = rooms.output.mesh(faces, positions);
+    let (text, copying) = time_text(operation, mesh, &result);
 
-    let (text, polyhedron) = least_with(
-        || polyhedron(mesh),
-        |made| {
-            (operator.text)(made);
-        },
-    );
-    assert!(same(&result, &made(&polyhedron)), "{} differs from the Rust text", operator.name);
-
-    let hand = byhand::written(operator.name).map(|hand| {
+    let hand = byhand::written(operation.name).map(|hand| {
         let mut room = Room::new();
-        let time = least(|| hand(mesh, &mut room));
-        assert!(same(&result, &room.mesh(faces, positions)), "{} differs from C by hand", operator.name);
+        let time = least(|| timed(|| hand(mesh, &mut room)));
+        assert!(
+            same(&result, &room.mesh(faces, positions)),
+            "{} differs from C by hand",
+            operation.name
+        );
         time
     });
-
-    let stack = byhand::stack(&mut || assert!((operator.library)(read(mesh), room.lent()).is_ok()));
     let lent = 4 * (result.offsets.len() + result.corners.len() + result.coordinates.len());
-    Times { library, text, hand, stack, lent }
+    Times { library, text, kept: text + copying, hand, stack, lent }
 }

@@ -1,16 +1,23 @@
 //! The tables, as they stand in docs/BENCHMARKS.md.
-use crate::byhand;
 use crate::geodesic;
 use crate::mesh::Mesh;
-use crate::operators::{Operator, OPERATORS};
+use crate::operators::{Operation, LISTS, OPERATORS};
 use crate::shapes;
-use crate::sides::{least, measure, read, Times};
+use crate::sides::{measure, read, time_and_stack, Times};
 use crossglimmer::slices;
 
-pub fn print() {
-    tori();
-    others();
-    checks();
+/// The parts of the page, which may be made side by side.
+pub const PARTS: [(&str, fn()); 4] =
+    [("operators", operators), ("lists", lists), ("others", others), ("checks", checks)];
+
+fn operators() {
+    println!("### Operators on torus grids, three sizes\n");
+    tori(&OPERATORS);
+}
+
+fn lists() {
+    println!("### Lists on torus grids, three sizes\n");
+    tori(&LISTS);
 }
 
 fn seconds(time: f64) -> String {
@@ -22,43 +29,63 @@ fn seconds(time: f64) -> String {
 }
 
 fn ratio(a: f64, b: f64) -> String {
-    let ratio = a / b;
-    if ratio >= 10.0 {
-        format!("{ratio:.0}")
-    } else {
-        format!("{ratio:.2}")
+    match a / b {
+        ratio if ratio >= 10.0 => format!("{ratio:.0}"),
+        ratio => format!("{ratio:.2}"),
     }
 }
 
-fn hand(times: &Times) -> [String; 2] {
-    let of = |text: &dyn Fn(f64) -> String| times.hand.map_or("-".to_string(), text);
-    [of(&|hand| seconds(hand)), of(&|hand| ratio(times.library, hand))]
+const COLUMNS: [&str; 11] = [
+    "corners in",
+    "library",
+    "Rust in place",
+    "Rust, input kept",
+    "C by hand",
+    "in place / library",
+    "kept / library",
+    "library / C",
+    "stack",
+    "result",
+    "input",
+];
+
+/// The names of the columns, with others before and after them, and the line under them.
+fn head(before: &[&str], after: &[&str]) {
+    let names: Vec<&str> = before.iter().chain(&COLUMNS).chain(after).copied().collect();
+    println!("| {} |\n|{}", names.join(" | "), "---|".repeat(names.len()));
+}
+
+fn columns(mesh: &Mesh, times: &Times) -> String {
+    let hand = |text: &dyn Fn(f64) -> String| times.hand.map_or("-".to_string(), text);
+    let input = 4 * (mesh.offsets.len() + mesh.corners.len() + mesh.coordinates.len());
+    [
+        mesh.corners.len().to_string(),
+        seconds(times.library),
+        seconds(times.text),
+        seconds(times.kept),
+        hand(&|hand| seconds(hand)),
+        ratio(times.text, times.library),
+        ratio(times.kept, times.library),
+        hand(&|hand| ratio(times.library, hand)),
+        format!("{} B", times.stack),
+        format!("{} B", times.lent),
+        format!("{input} B"),
+    ]
+    .join(" | ")
 }
 
 /// Three sizes of torus, each twice the one before.
-fn tori() {
-    println!("### Torus grids, three sizes\n");
-    println!("| operator | corners in | library | Rust | C by hand | Rust / library | library / C | grows: library | grows: Rust | stack | lent |");
-    println!("|---|---|---|---|---|---|---|---|---|---|---|");
-    for operator in &OPERATORS {
+fn tori(operations: &[Operation]) {
+    head(&["name"], &["grows: library", "grows: Rust"]);
+    for operation in operations {
         let mut before: Option<Times> = None;
-        for mesh in operator.tori() {
-            let times = measure(operator, &mesh);
-            let [by_hand, over_hand] = hand(&times);
-            let grows =
-                |side: fn(&Times) -> f64| before.as_ref().map_or("-".to_string(), |b| ratio(side(&times), side(b)));
-            println!(
-                "| {} | {} | {} | {} | {by_hand} | {} | {over_hand} | {} | {} | {} B | {} B |",
-                operator.name,
-                mesh.corners.len(),
-                seconds(times.library),
-                seconds(times.text),
-                ratio(times.text, times.library),
-                grows(|times| times.library),
-                grows(|times| times.text),
-                times.stack,
-                times.lent,
-            );
+        for mesh in operation.tori() {
+            let times = measure(operation, &mesh);
+            let grows = |side: fn(&Times) -> f64| {
+                before.as_ref().map_or("-".to_string(), |b| ratio(side(&times), side(b)))
+            };
+            let (ours, theirs) = (grows(|times| times.library), grows(|times| times.text));
+            println!("| {} | {} | {ours} | {theirs} |", operation.name, columns(&mesh, &times));
             before = Some(times);
         }
     }
@@ -66,44 +93,34 @@ fn tori() {
 
 /// The largest sphere and the largest pyramid.
 fn others() {
-    println!("\n### A geodesic sphere, and a pyramid with one hub\n");
-    println!(
-        "| operator | mesh | corners in | library | Rust | C by hand | Rust / library | library / C | stack | lent |"
-    );
-    println!("|---|---|---|---|---|---|---|---|---|---|");
-    for operator in &OPERATORS {
-        line(operator, "sphere", &geodesic::sphere(operator.frequency()));
-        line(operator, "pyramid", &shapes::pyramid(operator.sides()));
+    println!("### Operators on a geodesic sphere, and on a pyramid with one hub\n");
+    head(&["name", "mesh"], &[]);
+    for operation in &OPERATORS {
+        for (name, mesh) in [
+            ("sphere", geodesic::sphere(operation.frequency())),
+            ("pyramid", shapes::pyramid(operation.sides())),
+        ] {
+            println!(
+                "| {} | {name} | {} |",
+                operation.name,
+                columns(&mesh, &measure(operation, &mesh))
+            );
+        }
     }
 }
 
-fn line(operator: &Operator, name: &str, mesh: &Mesh) {
-    let times = measure(operator, mesh);
-    let [by_hand, over_hand] = hand(&times);
-    println!(
-        "| {} | {name} | {} | {} | {} | {by_hand} | {} | {over_hand} | {} B | {} B |",
-        operator.name,
-        mesh.corners.len(),
-        seconds(times.library),
-        seconds(times.text),
-        ratio(times.text, times.library),
-        times.stack,
-        times.lent,
-    );
-}
-
-/// The checks alone, which the Rust does not have.
+/// What the Rust does not have.
 fn checks() {
-    println!("\n### The checks and the edge list alone, on torus grids\n");
+    println!("### The checks and the edge list alone, on torus grids\n");
     println!("| corners in | check | check_full | edges | stack of check_full |");
     println!("|---|---|---|---|---|");
     for across in [25, 50, 100] {
         let mesh = shapes::torus(across, 150);
         let mut pairs = vec![[0; 2]; mesh.corners.len() / 2];
-        let check = least(|| slices::check(read(&mesh)).expect("a good mesh"));
-        let full = least(|| slices::check_full(read(&mesh)).expect("a good mesh"));
-        let edges = least(|| assert!(slices::edges(read(&mesh), &mut pairs).is_ok()));
-        let stack = byhand::stack(&mut || assert!(slices::check_full(read(&mesh)).is_ok()));
+        let (check, _) = time_and_stack(|| slices::check(read(&mesh)).expect("a good mesh"));
+        let (full, stack) =
+            time_and_stack(|| slices::check_full(read(&mesh)).expect("a good mesh"));
+        let (edges, _) = time_and_stack(|| assert!(slices::edges(read(&mesh), &mut pairs).is_ok()));
         println!(
             "| {} | {} | {} | {} | {stack} B |",
             mesh.corners.len(),
