@@ -36,7 +36,7 @@ pub struct Rooms {
 }
 
 impl Rooms {
-    fn new() -> Rooms {
+    pub fn new() -> Rooms {
         Rooms { output: Room::new(), work: [Room::new(), Room::new()] }
     }
 

@@ -3,12 +3,12 @@ use crate::geodesic;
 use crate::mesh::Mesh;
 use crate::operators::{Operation, LISTS, OPERATORS};
 use crate::shapes;
-use crate::sides::{measure, read, time_and_stack, Times};
-use crossglimmer::slices;
+use crate::sides::{measure, read, time_and_stack, Rooms, Times};
+use crossglimmer::{slices, Step};
 
 /// The parts of the page, which may be made side by side.
 pub const PARTS: [(&str, fn()); 4] =
-    [("operators", operators), ("lists", lists), ("others", others), ("checks", checks)];
+    [("operators", operators), ("lists", lists), ("others", others), ("rest", rest)];
 
 fn operators() {
     println!("### Operators on torus grids, three sizes\n");
@@ -110,6 +110,14 @@ fn others() {
 }
 
 /// What the Rust does not have.
+fn rest() {
+    checks();
+    println!();
+    recipes();
+    println!();
+    files();
+}
+
 fn checks() {
     println!("### The checks and the edge list alone, on torus grids\n");
     println!("| corners in | check | check_full | edges | stack of check_full |");
@@ -129,4 +137,62 @@ fn checks() {
             seconds(edges)
         );
     }
+}
+
+/// The last steps of these, on a tetrahedron; all sixteen give 30,240 corners.
+const STEPS: [Step; 16] = [
+    Step::Ambo(None),
+    Step::Dual,
+    Step::Reverse,
+    Step::Reflect,
+    Step::Triangulate,
+    Step::Dual,
+    Step::Dual,
+    Step::Reverse,
+    Step::Dual,
+    Step::Dual,
+    Step::Reverse,
+    Step::Reflect,
+    Step::Chamfer(None),
+    Step::Quinto(None),
+    Step::Gyro(None, None),
+    Step::Whirl(None, None),
+];
+
+fn recipes() {
+    println!("### Recipes on a tetrahedron, by the number of steps\n");
+    println!("| steps | corners of the result | library | stack |\n|---|---|---|---|");
+    let (mesh, mut rooms) = (shapes::tetrahedron(), Rooms::new());
+    for steps in [1, 2, 4, 8, 16] {
+        let words: Vec<[u32; 4]> =
+            STEPS[STEPS.len() - steps..].iter().map(|step| step.words()).collect();
+        let (mut ledger, mut edges) = (vec![0; 4 * steps], 0);
+        let (time, stack) = time_and_stack(|| {
+            let (work, out) = rooms.all();
+            let made = slices::recipe(&words, &mut ledger, read(&mesh), work, out);
+            edges = made.expect("a recipe that is accepted").edges;
+        });
+        println!("| {steps} | {} | {} | {stack} B |", 2 * edges, seconds(time));
+    }
+}
+
+fn files() {
+    println!("### The largest panel file: 16 steps, 400 positions, 400 faces, 1,200 corners\n");
+    println!("| call | library | stack |\n|---|---|---|");
+    let mesh = Mesh::new(&vec![vec![0, 1, 2]; 400], &vec![[0.5, 0.25, 1.0]; 400]);
+    let (mut file, mut rooms) = (vec![0; 20_000], Rooms::new());
+    let mut steps = STEPS.map(|step| step.words());
+    let mut length = 0;
+    let print = |call: &str, (time, stack): (f64, usize)| {
+        println!("| {call} | {} | {stack} B |", seconds(time));
+    };
+    print(
+        "written",
+        time_and_stack(|| {
+            length = slices::panel_write(&steps, read(&mesh), &mut file).expect("a file");
+        }),
+    );
+    let file = &file[..length];
+    print("mesh read", time_and_stack(|| assert!(slices::panel_read(file, rooms.out()).is_ok())));
+    print("steps read", time_and_stack(|| assert!(slices::panel_steps(file, &mut steps).is_ok())));
 }

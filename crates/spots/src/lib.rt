@@ -3,7 +3,7 @@
 ghost use mathlib.Core.Path.{_≡_};
 ghost use mathlib.Core.List.{[], _++_};
 ghost use mathlib.Core.Bool.{cond};
-ghost use Prim.Native.Nat.{_+_, _-_, _*_, _<_, _≤_};
+ghost use Prim.Native.Nat.{_+_, _-_, _*_, _/_, _<_, _≤_};
 ghost use lib.ListN.{length};
 ghost use Rattle.point.specs.Face.{coordsOf, InReach};
 ghost use Rattle.point.specs.Finite.{firstBad};
@@ -14,6 +14,7 @@ ghost use Rattle.spots.specs.Points.{changeOf, spotOf, between, tipOf, m
 ghost use Rattle.spots.specs.Ready.{Ready};
 ghost use Rattle.spots.specs.Laid.{Laid};
 ghost use Rattle.spots.specs.Spots.{listOf, Holds};
+ghost use Rattle.spots.specs.Olds.{oldsTo};
 
 // What becomes of an old position: kept, times 1.5 of the ratio, or with y turned round.
 pub enum Change {
@@ -397,8 +398,8 @@ pub fn bad_spots(s: Spots) -> usize
     3 + j
 }
 
-// The first coordinate of the section that is not finite, or how many coordinates it has.
-pub fn bad_points(
+// The first coordinate of the section that is not finite, or how many coordinates it has, looked for at each place.
+fn bad_each(
     q: Points,
     t: f32,
     h: f32,
@@ -428,6 +429,44 @@ pub fn bad_points(
     at
 }
 
+// The same of the old positions: a loop of its own, since they are many and each is soon done.
+fn bad_olds(s: Change, t: f32, coords: &[f32]) -> usize
+    requires { ⌜ length (now coords) / 3 ≤ 60000 ⌝ }
+    ensures { λ r. ⌜ r ≡ firstBad (oldsTo s t (now (coords .entry)) (length (now (coords .entry)) / 3)) ⌝ }
+{
+    let n = coords.len() / 3;
+    let mut i = 0;
+    while i < n {
+        let j = bad_in(changed(s, t, point::point_at(coords, i)));
+        if j < 3 {
+            return 3 * i + j;
+        }
+        i += 1;
+    }
+    3 * n
+}
+
+// The first coordinate of the section that is not finite, or how many coordinates it has.
+pub fn bad_points(
+    q: Points,
+    t: f32,
+    h: f32,
+    mask: picks::Mask,
+    arities: &[u32],
+    numbers: &[u32],
+    offsets: &[u32],
+    corners: &[u32],
+    coords: &[f32],
+) -> usize
+    requires { ⌜ Ready (now offsets) (now corners) (now coords) ⌝ }
+    ensures { λ r. ⌜ r ≡ firstBad (pointsOf q t h mask (now (arities .entry)) (now (numbers .entry)) (now (offsets .entry)) (now (corners .entry)) (now (coords .entry))) ⌝ }
+{
+    let Points::Olds(s) = q else {
+        return bad_each(q, t, h, mask, arities, numbers, offsets, corners, coords);
+    };
+    bad_olds(s, t, coords)
+}
+
 // What a section has at one place, written from vertex `at` on; the vertex after it.
 pub fn put_spots(s: Spots, out: &mut [f32], at: usize) -> usize
     requires { ⌜ s .n ≤ 2 ⌝ }
@@ -448,8 +487,8 @@ pub fn put_spots(s: Spots, out: &mut [f32], at: usize) -> usize
     at + 2
 }
 
-// The points of the section, written from vertex `at` on; the vertex after them.
-pub fn put_points(
+// The points of the section, place by place, written from vertex `at` on; the vertex after them.
+fn put_each(
     q: Points,
     t: f32,
     h: f32,
@@ -475,4 +514,57 @@ pub fn put_points(
         i += 1;
     }
     v
+}
+
+// The old positions, written from vertex `at` on; the vertex after them.
+fn put_olds(s: Change, t: f32, coords: &[f32], out: &mut [f32], at: usize) -> usize
+    requires { ⌜ length (now coords) / 3 ≤ 60000 ⌝ }
+    requires { ⌜ 3 * at + 3 * (length (now coords) / 3) ≤ length (now out) ⌝ }
+    ensures { λ r. ⌜ Laid (now (out .entry)) at (oldsTo s t (now (coords .entry)) (length (now (coords .entry)) / 3)) (now (out .exit)) r ⌝ }
+{
+    let n = coords.len() / 3;
+    let mut v = at;
+    let mut i = 0;
+    while i < n {
+        point::put_point(out, v, changed(s, t, point::point_at(coords, i)));
+        v += 1;
+        i += 1;
+    }
+    v
+}
+
+// The points of the section, written from vertex `at` on; the vertex after them.
+pub fn put_points(
+    q: Points,
+    t: f32,
+    h: f32,
+    mask: picks::Mask,
+    arities: &[u32],
+    numbers: &[u32],
+    offsets: &[u32],
+    corners: &[u32],
+    coords: &[f32],
+    out: &mut [f32],
+    at: usize,
+) -> usize
+    requires { ⌜ Ready (now offsets) (now corners) (now coords) ⌝ }
+    requires { ⌜ 3 * at + length (pointsOf q t h mask (now arities) (now numbers) (now offsets) (now corners) (now coords)) ≤ length (now out) ⌝ }
+    ensures { λ r. ⌜ Laid (now (out .entry)) at (pointsOf q t h mask (now (arities .entry)) (now (numbers .entry)) (now (offsets .entry)) (now (corners .entry)) (now (coords .entry))) (now (out .exit)) r ⌝ }
+{
+    let Points::Olds(s) = q else {
+        return put_each(
+            q,
+            t,
+            h,
+            mask,
+            arities,
+            numbers,
+            offsets,
+            corners,
+            coords,
+            out,
+            at,
+        );
+    };
+    put_olds(s, t, coords, out, at)
 }
