@@ -7,8 +7,13 @@ use crate::sides::{measure, read, time_and_stack, Rooms, Times};
 use crossglimmer::{slices, Step};
 
 /// The parts of the page, which may be made side by side.
-pub const PARTS: [(&str, fn()); 4] =
-    [("operators", operators), ("lists", lists), ("others", others), ("rest", rest)];
+pub const PARTS: [(&str, fn()); 5] = [
+    ("operators", operators),
+    ("lists", lists),
+    ("operators-elsewhere", operators_elsewhere),
+    ("lists-elsewhere", lists_elsewhere),
+    ("rest", rest),
+];
 
 fn operators() {
     println!("### Operators on torus grids, three sizes\n");
@@ -91,20 +96,25 @@ fn tori(operations: &[Operation]) {
     }
 }
 
-/// The largest sphere and the largest pyramid.
-fn others() {
+fn operators_elsewhere() {
     println!("### Operators on a geodesic sphere, and on a pyramid with one hub\n");
+    elsewhere(&OPERATORS);
+}
+
+fn lists_elsewhere() {
+    println!("### Lists on a geodesic sphere, and on a pyramid with one hub\n");
+    elsewhere(&LISTS);
+}
+
+/// The largest sphere and the largest pyramid.
+fn elsewhere(operations: &[Operation]) {
     head(&["name", "mesh"], &[]);
-    for operation in &OPERATORS {
-        for (name, mesh) in [
-            ("sphere", geodesic::sphere(operation.frequency())),
-            ("pyramid", shapes::pyramid(operation.sides())),
-        ] {
-            println!(
-                "| {} | {name} | {} |",
-                operation.name,
-                columns(&mesh, &measure(operation, &mesh))
-            );
+    for operation in operations {
+        let sphere = geodesic::sphere(operation.frequency());
+        let pyramid = shapes::pyramid(operation.sides());
+        for (name, mesh) in [("sphere", sphere), ("pyramid", pyramid)] {
+            let times = measure(operation, &mesh);
+            println!("| {} | {name} | {} |", operation.name, columns(&mesh, &times));
         }
     }
 }
