@@ -6,79 +6,7 @@ use engine::Counts;
 use libc::STDOUT_FILENO;
 use panel::Filed;
 use picks::Mask;
-ghost use mathlib.Core.Path.{_≡_};
-ghost use Rattle.reports.specs.Reports.{difference, halfOf, eulerOf, handlesOf, answerAt};
-
-// A whole number by its sign and size; 0 has no sign.
-pub struct Whole {
-    pub minus: bool,
-    pub size: u64,
-}
-
-// a - b
-fn take_away(a: u64, b: u64) -> Whole
-    ensures { λ r. ⌜ r ≡ difference a b ⌝ }
-{
-    if b <= a {
-        Whole {
-            minus: false,
-            size: a - b,
-        }
-    } else {
-        Whole {
-            minus: true,
-            size: b - a,
-        }
-    }
-}
-
-// Half of it, rounded toward zero.
-fn half(w: Whole) -> Whole
-    ensures { λ r. ⌜ r ≡ halfOf w ⌝ }
-{
-    if w.size < 2 {
-        Whole {
-            minus: false,
-            size: 0,
-        }
-    } else {
-        Whole {
-            minus: w.minus,
-            size: w.size / 2,
-        }
-    }
-}
-
-// X is V - E + F.
-pub fn euler(c: Counts) -> Whole
-    ensures { λ r. ⌜ r ≡ eulerOf c ⌝ }
-{
-    take_away((c.v as u64) + (c.f as u64), c.e as u64)
-}
-
-// H, the number of handles, is (2 - X) / 2, rounded toward zero.
-pub fn handles(c: Counts) -> Whole
-    ensures { λ r. ⌜ r ≡ handlesOf c ⌝ }
-{
-    half(take_away((c.e as u64) + 2, (c.v as u64) + (c.f as u64)))
-}
-
-// The answer of step k + 1 of a recipe that was run.
-pub fn answer_at(ran: Ran, k: usize) -> Answer
-    ensures { λ r. ⌜ r ≡ answerAt ran k ⌝ }
-{
-    if k < ran.done {
-        if k < 16 {
-            let row = ran.rows[k];
-            return Answer::Done(Counts {
-                v: row.v,
-                e: row.e,
-                f: row.f,
-            });
-        }
-    }
-    ran.answer
-}
+use totals::Whole;
 
 fn code_at(ran: Ran, k: usize) -> u32 {
     if k < 16 {
@@ -120,9 +48,9 @@ fn print_step(step: usize, code: u32, c: Counts) {
     space();
     print(c.f);
     space();
-    print_whole(euler(c));
+    print_whole(totals::euler(c));
     space();
-    print_whole(handles(c));
+    print_whole(totals::handles(c));
     end();
 }
 
@@ -148,7 +76,7 @@ fn print_refused(a: Answer) {
 fn print_steps(ran: Ran, n: usize) {
     let mut k = 0;
     while k < n {
-        let a = answer_at(ran, k);
+        let a = totals::answer_at(ran, k);
         let Answer::Done(counts) = a else {
             print_refused(a);
             return;

@@ -1,8 +1,8 @@
 use mathlib.Core.Path.{_∙_, ap}
-use Rattle.reports.specs.Reports.{halfOf}
+use Rattle.totals.specs.Totals.{halfOf}
 use borrow.Author.Needs.{needs}
-use Rattle.reports.proofs.handles.Statement.{statement}
-use Rattle.reports.proofs.handles.Tie as tie
+use Rattle.totals.proofs.handles.Statement.{statement}
+use Rattle.totals.proofs.handles.Tie as tie
 
 cast-take-away : tie.Need-cast-take-away
 cast-take-away c = search needs

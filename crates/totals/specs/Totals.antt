@@ -9,7 +9,7 @@ use Rattle.engine.specs.declared.Answer.{Answer}
 use Rattle.engine.specs.declared.Answer.the-variants.{Done}
 use Rattle.chain.specs.declared.Row.{Row}
 use Rattle.chain.specs.declared.Ran.{Ran}
-use Rattle.reports.specs.declared.Whole.{Whole}
+use Rattle.totals.specs.declared.Whole.{Whole}
 
 -- a - b
 abbrev pub difference : ℕ → ℕ → Whole

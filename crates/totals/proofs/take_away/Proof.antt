@@ -1,7 +1,7 @@
 use borrow.Author.Tests.{le-leb, lt-leb}
 use borrow.Author.Needs.{needs}
-use Rattle.reports.proofs.take_away.Statement.{statement}
-use Rattle.reports.proofs.take_away.Tie as tie
+use Rattle.totals.proofs.take_away.Statement.{statement}
+use Rattle.totals.proofs.take_away.Tie as tie
 
 sub-t6 : tie.Need-sub-t6
 sub-t6 c = search needs
