@@ -80,8 +80,8 @@ fn spell_verdict(v: mesh::Verdict) -> Words
     ensures { λ r. ⌜ spelled r ≡ verdictWords v ⌝ }
 {
     Words {
-        number: mesh::number_of(v),
-        place: mesh::place_of(v),
+        number: verdicts::number_of(v),
+        place: verdicts::place_of(v),
         step: 0,
         v: 0,
         e: 0,

@@ -13,32 +13,12 @@ ghost use Rattle.mesh.specs.Twice.{Inside, Unmarked, inWindow, again};
 ghost use Rattle.mesh.specs.Edges.{Faced, Sound, edge, up, rank, edges};
 ghost use Rattle.mesh.specs.EdgeList.{rise, listing, answerOf, listAfter};
 ghost use Rattle.mesh.specs.Shape.{Shaped, In, Full, Limited};
-ghost use Rattle.mesh.specs.Tests.{falls, wrongOffsets, wrongShape, tooMany, short, outside, seen, repeats, met, alone, limit, verdict, numberOf, placeOf, tests, sizeTests, faceTests, edgeTests, facesAt, few, back, split, roundTests, fullTests};
+ghost use Rattle.mesh.specs.Tests.{falls, wrongOffsets, wrongShape, tooMany, short, outside, seen, repeats, met, alone, limit, verdict, tests, sizeTests, faceTests, edgeTests, facesAt, few, back, split, roundTests, fullTests};
 
 // What the table says: nothing is refused, or a number and its place.
 pub enum Verdict {
     Good,
     Bad { number: u32, place: u32 },
-}
-
-// The number that a verdict stands for: 0 where nothing is refused.
-pub fn number_of(v: Verdict) -> u32
-    ensures { λ r. ⌜ r ≡ numberOf v ⌝ }
-{
-    match v {
-        Verdict::Good => 0,
-        Verdict::Bad { number, place: _ } => number,
-    }
-}
-
-// The place of a verdict: 0 where nothing is refused.
-pub fn place_of(v: Verdict) -> u32
-    ensures { λ r. ⌜ r ≡ placeOf v ⌝ }
-{
-    match v {
-        Verdict::Good => 0,
-        Verdict::Bad { number: _, place } => place,
-    }
 }
 
 // ---- the tests, a function each

@@ -47,13 +47,13 @@ fn line(name: &[u8], n: u32, p: u32) {
 // By the table to 9.
 fn closed(name: &[u8], offsets: &[u32], corners: &[u32], coords: &[f32]) {
     let v = mesh::check(offsets, corners, coords);
-    line(name, mesh::number_of(v), mesh::place_of(v));
+    line(name, verdicts::number_of(v), verdicts::place_of(v));
 }
 
 // By the table to 11.
 fn round(name: &[u8], offsets: &[u32], corners: &[u32], coords: &[f32]) {
     let v = mesh::check_full(offsets, corners, coords);
-    line(name, mesh::number_of(v), mesh::place_of(v));
+    line(name, verdicts::number_of(v), verdicts::place_of(v));
 }
 
 // T with other offsets, corners or coordinates.

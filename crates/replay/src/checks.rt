@@ -39,8 +39,8 @@ fn of_mesh(text: &mut Text, code: u32, offsets: &[u32], corners: &[u32], coords:
 }
 
 fn put_verdict(text: &mut Text, v: Verdict) -> usize {
-    let place = put_number(text, 0, mesh::number_of(v));
-    put_number(text, place, mesh::place_of(v))
+    let place = put_number(text, 0, verdicts::number_of(v));
+    put_number(text, place, verdicts::place_of(v))
 }
 
 // The answer for the mesh of a case: its edges, listed into the lent pairs.
