@@ -1,4 +1,4 @@
-//! Links the two C files, which bench/run compiles.
+//! Links the C files, which bench/run compiles.
 fn main() {
     println!("cargo:rustc-link-search=native={}/target/c", env!("CARGO_MANIFEST_DIR"));
     println!("cargo:rustc-link-lib=static=byhand");

@@ -1,12 +1,10 @@
 /* gyro and dual by hand in linear time, with memory of their own and no table of refusals: about as fast as they can be.
  * They take a closed mesh within the limits and answer whether each edge had its reverse. */
+#include "../include/crossglimmer.h"
 #include <math.h>
-#include <stdbool.h>
-#include <stddef.h>
-#include <stdint.h>
 #include <string.h>
 
-#define MOST 60000
+#define MOST CG_LIMIT
 #define TABLE (1u << 17)
 #define NONE UINT32_MAX
 
@@ -83,14 +81,16 @@ static point normal(const uint32_t *run, uint32_t arity, const float *coords)
 }
 
 /* gyro with no numbers: ratio 1/3, height 0. */
-bool limit_gyro(const uint32_t *offsets, size_t offsets_length, const uint32_t *corners, size_t n, const float *coords,
-                size_t coords_length, uint32_t *out_offsets, uint32_t *out_corners, float *out_coords)
+bool limit_gyro(cg_mesh mesh, cg_room room)
 {
-    uint32_t faces = (uint32_t)offsets_length - 1, v = (uint32_t)coords_length / 3, new_edge = v + faces;
-    if (!link(offsets, faces, corners, (uint32_t)n))
+    const uint32_t *offsets = mesh.offsets, *corners = mesh.corners;
+    const float *coords = mesh.coords;
+    uint32_t faces = (uint32_t)mesh.offsets_length - 1, n = (uint32_t)mesh.corners_length;
+    uint32_t v = (uint32_t)mesh.coords_length / 3, new_edge = v + faces;
+    if (!link(offsets, faces, corners, n))
         return false;
-    memcpy(out_coords, coords, coords_length * sizeof *coords);
-    float *out = out_coords + coords_length;
+    memcpy(room.coords, coords, mesh.coords_length * sizeof *coords);
+    float *out = room.coords + mesh.coords_length;
     for (uint32_t f = 0; f < faces; f++) {
         const uint32_t *run = corners + offsets[f];
         uint32_t arity = offsets[f + 1] - offsets[f];
@@ -106,38 +106,40 @@ bool limit_gyro(const uint32_t *offsets, size_t offsets_length, const uint32_t *
         out = put(out, plus(a, times(minus(b, a), 1.0f / 3.0f)));
         out = put(out, plus(b, times(minus(a, b), 1.0f / 3.0f)));
     }
-    out_offsets[0] = 0;
+    room.offsets[0] = 0;
     for (uint32_t c = 0; c < n; c++) {
-        uint32_t p = prev_of[c], *face = out_corners + 5 * (size_t)c;
+        uint32_t p = prev_of[c], *face = room.corners + 5 * (size_t)c;
         face[0] = corners[c];
         face[1] = dir_of[c];
         face[2] = v + face_of[c];
         face[3] = dir_of[p];
         face[4] = dir_of[mate_of[p]];
-        out_offsets[c + 1] = 5 * (c + 1);
+        room.offsets[c + 1] = 5 * (c + 1);
     }
     return true;
 }
 
-bool limit_dual(const uint32_t *offsets, size_t offsets_length, const uint32_t *corners, size_t n, const float *coords,
-                size_t coords_length, uint32_t *out_offsets, uint32_t *out_corners, float *out_coords)
+bool limit_dual(cg_mesh mesh, cg_room room)
 {
-    uint32_t faces = (uint32_t)offsets_length - 1, v = (uint32_t)coords_length / 3, made = 0;
-    if (!link(offsets, faces, corners, (uint32_t)n))
+    const uint32_t *offsets = mesh.offsets, *corners = mesh.corners;
+    uint32_t faces = (uint32_t)mesh.offsets_length - 1, n = (uint32_t)mesh.corners_length;
+    uint32_t v = (uint32_t)mesh.coords_length / 3, made = 0;
+    float *out = room.coords;
+    if (!link(offsets, faces, corners, n))
         return false;
     for (uint32_t f = 0; f < faces; f++)
-        out_coords = put(out_coords, centroid(corners + offsets[f], offsets[f + 1] - offsets[f], coords));
+        out = put(out, centroid(corners + offsets[f], offsets[f + 1] - offsets[f], mesh.coords));
     memset(lowest, 0xff, sizeof lowest);
-    for (uint32_t c = (uint32_t)n; c-- > 0;)
+    for (uint32_t c = n; c-- > 0;)
         lowest[corners[c]] = c;
-    out_offsets[0] = 0;
+    room.offsets[0] = 0;
     for (uint32_t u = 0; u < v; u++) {
         uint32_t c = lowest[u];
         do {
-            out_corners[made++] = face_of[c];
+            room.corners[made++] = face_of[c];
             c = mate_of[prev_of[c]];
         } while (c != lowest[u]);
-        out_offsets[u + 1] = made;
+        room.offsets[u + 1] = made;
     }
     return true;
 }

@@ -12,6 +12,7 @@ mod byhand;
 mod geodesic;
 mod operators;
 mod sides;
+mod spoilt;
 mod tables;
 
 /// Deep enough for the Rust text's recursion round a vertex.

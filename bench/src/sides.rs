@@ -2,6 +2,7 @@
 use crate::byhand;
 use crate::mesh::{Mesh, LIMIT};
 use crate::operators::Operation;
+use crate::spoilt;
 use crossglimmer::slices::Work;
 use crossglimmer::{Counts, Lent, Read};
 use polyhedron_ops::{Point, Polyhedron};
@@ -31,7 +32,7 @@ impl Room {
 
 /// The output, and the two work meshes of a list.
 pub struct Rooms {
-    output: Room,
+    pub output: Room,
     work: [Room; 2],
 }
 
@@ -51,6 +52,7 @@ impl Rooms {
 }
 
 /// Seconds, and what the call takes beside them.
+#[derive(Clone, Copy)]
 pub struct Times {
     pub library: f64,
     /// The Rust text on a mesh of its own, in place.
@@ -58,6 +60,8 @@ pub struct Times {
     /// The same with the copy that keeps its input, as the library's call does.
     pub kept: f64,
     pub hand: Option<f64>,
+    /// By hand behind the checks of the library.
+    pub checked: Option<f64>,
     pub stack: usize,
     pub lent: usize,
 }
@@ -141,16 +145,18 @@ pub fn measure(operation: &Operation, mesh: &Mesh) -> Times {
     let result = rooms.output.mesh(faces, positions);
     let (text, copying) = time_text(operation, mesh, &result);
 
-    let hand = byhand::written(operation.name).map(|hand| {
+    let by_hand = |call: &dyn Fn(&Mesh, &mut Room)| {
         let mut room = Room::new();
-        let time = least(|| timed(|| hand(mesh, &mut room)));
-        assert!(
-            same(&result, &room.mesh(faces, positions)),
-            "{} differs from C by hand",
-            operation.name
-        );
+        let time = least(|| timed(|| call(mesh, &mut room)));
+        let made = room.mesh(faces, positions);
+        assert!(same(&result, &made), "{} differs from C by hand", operation.name);
         time
+    };
+    let hand = byhand::written(operation.name).map(|hand| by_hand(&hand));
+    let checked = byhand::checked(operation.name).map(|hand| {
+        spoilt::compare(operation, hand, mesh);
+        by_hand(&|mesh, room| hand(mesh, room).expect("a mesh that is accepted"))
     });
     let lent = 4 * (result.offsets.len() + result.corners.len() + result.coordinates.len());
-    Times { library, text, kept: text + copying, hand, stack, lent }
+    Times { library, text, kept: text + copying, hand, checked, stack, lent }
 }

@@ -17,7 +17,9 @@ pub const PARTS: [(&str, fn()); 5] = [
 
 fn operators() {
     println!("### Operators on torus grids, three sizes\n");
-    tori(&OPERATORS);
+    let rows = tori(&OPERATORS);
+    println!("\n### Reverse and reflect by hand, in the same runs\n");
+    flips(&rows);
 }
 
 fn lists() {
@@ -79,8 +81,12 @@ fn columns(mesh: &Mesh, times: &Times) -> String {
     .join(" | ")
 }
 
+/// An operator on a mesh of so many corners.
+type Row = (&'static str, usize, Times);
+
 /// Three sizes of torus, each twice the one before.
-fn tori(operations: &[Operation]) {
+fn tori(operations: &[Operation]) -> Vec<Row> {
+    let mut rows = Vec::new();
     head(&["name"], &["grows: library", "grows: Rust"]);
     for operation in operations {
         let mut before: Option<Times> = None;
@@ -92,6 +98,22 @@ fn tori(operations: &[Operation]) {
             let (ours, theirs) = (grows(|times| times.library), grows(|times| times.text));
             println!("| {} | {} | {ours} | {theirs} |", operation.name, columns(&mesh, &times));
             before = Some(times);
+            rows.push((operation.name, mesh.corners.len(), times));
+        }
+    }
+    rows
+}
+
+/// The operators that are written by hand with the checks too.
+fn flips(rows: &[Row]) {
+    println!(
+        "| name | corners in | Rust in place | library | C by hand | C by hand with the checks |"
+    );
+    println!("|---|---|---|---|---|---|");
+    for (name, corners, times) in rows {
+        if let (Some(hand), Some(checked)) = (times.hand, times.checked) {
+            let times = [times.text, times.library, hand, checked].map(seconds).join(" | ");
+            println!("| {name} | {corners} | {times} |");
         }
     }
 }
