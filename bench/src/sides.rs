@@ -90,14 +90,11 @@ fn timed(run: impl FnOnce()) -> f64 {
     byhand::clock() - started
 }
 
-/// The least time of a call, and the most stack that one of the runs took.
+/// The least time of a call, and the most stack that one of the runs took: all are on one thread, so that only the first
+/// finds what it reads pushed out of the caches by the painting.
 pub fn time_and_stack(mut call: impl FnMut()) -> (f64, usize) {
-    let mut stack = 0;
-    let time = least(|| {
-        let mut time = 0.0;
-        stack = stack.max(byhand::stack(&mut || time = timed(&mut call)));
-        time
-    });
+    let mut time = 0.0;
+    let stack = byhand::stack(&mut || time = least(|| timed(&mut call)));
     (time, stack)
 }
 
