@@ -8,9 +8,10 @@ use Rattle.slices.specs.First.{any}
 use Rattle.operators.specs.declared.Number.{Number}
 use Rattle.steps.specs.Steps.{Mesh, Room}
 use Rattle.chain.specs.Trail.{Trail, stopped}
-use Rattle.lists.specs.Lists.{listMasks, listTrail}
-use Rattle.lists.specs.declared.NamedList.{NamedList}
-use Rattle.lists.specs.declared.NamedList.the-variants.{Bevel, Expand, Join, Medial, Meta, Needle, Ortho, Snub, Truncate, Zip}
+use Rattle.named.specs.Named.{listMasks}
+use Rattle.named.specs.declared.NamedList.{NamedList}
+use Rattle.named.specs.declared.NamedList.the-variants.{Bevel, Expand, Join, Medial, Meta, Needle, Ortho, Snub, Truncate, Zip}
+use Rattle.lists.specs.Lists.{listTrail}
 use Rattle.recipes.specs.Recipe.{recipeTrail}
 use Rattle.given.specs.Given.{unknown, stepsIn, strangeAt}
 

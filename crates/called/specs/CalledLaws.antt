@@ -15,9 +15,10 @@ use Rattle.engine.specs.declared.Answer.the-variants as answers
 use Rattle.steps.specs.Steps.{Mesh, Room}
 use Rattle.steps.specs.declared.Step.{Step}
 use Rattle.chain.specs.Trail.{Trail, stopped, Zero}
-use Rattle.lists.specs.Lists.{listMasks, listTrail, Listed}
-use Rattle.lists.specs.declared.NamedList.{NamedList}
-use Rattle.lists.specs.declared.NamedList.the-variants.{Zip}
+use Rattle.named.specs.Named.{listMasks}
+use Rattle.named.specs.declared.NamedList.{NamedList}
+use Rattle.named.specs.declared.NamedList.the-variants.{Zip}
+use Rattle.lists.specs.Lists.{listTrail, Listed}
 use Rattle.recipes.specs.Recipe.{recipeTrail, flatRows, Entered}
 use Rattle.panel.specs.Format.{Contents, holds, reading, fillers}
 use Rattle.panel.specs.Laws.{length-run}

@@ -1,7 +1,7 @@
 // A recipe of steps given as words, and lists given by a number, for callers that have no enums.
 
 use engine::Answer;
-use lists::NamedList;
+use named::NamedList;
 use operators::Number;
 ghost use mathlib.Core.Path.{_≡_};
 ghost use Prim.Native.Nat.{_/_};

@@ -1,35 +1,18 @@
 -- A panel file as it crosses the boundary: what an exported call that reads or writes one leaves. Definitions, and the laws of a call.
 use mathlib.Core.Path.{_≡_, _∙_, ap}
-use mathlib.Core.List.{List, [], _∷_}
+use mathlib.Core.List.{List}
 use Prim.Native.Nat.{ℕ}
 use lib.ListN.{length}
 use lib.Ieee.{Float}
 use Rattle.panel.specs.Format.{Reading, filedOf, offsetsAfter, cornersAfter, coordsAfter, Read}
 use Rattle.panel.specs.declared.Filed.{Filed}
-use Rattle.panel.specs.declared.Filed.the-variants.{Fine, Refused}
 use Rattle.writer.specs.File.{fileOf, given}
 use Rattle.writer.specs.Answer.{bytesAfter}
 use Rattle.writer.specs.declared.Written.{Written}
-use Rattle.writer.specs.declared.Written.the-variants as written
 use Rattle.given.specs.Given.{stepsIn, foursAfter, StepsRead, givenWritten, GivenWrote}
-use Rattle.exports.specs.declared.Filing.{Filing}
-use Rattle.exports.specs.declared.Writing.{Writing}
-
--- number, place, steps, positions, faces, corners
-abbrev pub filing : Filing → List ℕ
-filing f = f .number ∷ f .place ∷ f .steps ∷ f .positions ∷ f .faces ∷ f .corners ∷ []
-
-abbrev pub filedWords : Filed → List ℕ
-filedWords (Fine n v f c) = 0 ∷ 0 ∷ n ∷ v ∷ f ∷ c ∷ []
-filedWords (Refused number place) = number ∷ place ∷ 0 ∷ 0 ∷ 0 ∷ 0 ∷ []
-
--- number, place, bytes
-abbrev pub writing : Writing → List ℕ
-writing w = w .number ∷ w .place ∷ w .bytes ∷ []
-
-abbrev pub writtenWords : Written → List ℕ
-writtenWords (written.Done size) = 0 ∷ 0 ∷ size ∷ []
-writtenWords (written.Refused number place) = number ∷ place ∷ 0 ∷ []
+use Rattle.spelling.specs.Words.{filing, filedWords, writing, writtenWords}
+use Rattle.spelling.specs.declared.Filing.{Filing}
+use Rattle.spelling.specs.declared.Writing.{Writing}
 
 -- an exported call that reads a file: its words, and the lent offsets, corners and coordinates before and after it
 pub record FileTold (q : Reading) (o k : List ℕ) (x : List Float) (r : Filing) (o′ k′ : List ℕ) (x′ : List Float) : Type 0 where

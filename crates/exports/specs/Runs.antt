@@ -9,8 +9,8 @@ use Rattle.steps.specs.Steps.{Mesh}
 use Rattle.chain.specs.Trail.{Trail, answerTo, Ended, Zero}
 use Rattle.lists.specs.Lists as lists
 use Rattle.recipes.specs.Recipe.{flatRows, Entered}
-use Rattle.exports.specs.Words.{spelled}
-use Rattle.exports.specs.declared.Words.{Words}
+use Rattle.spelling.specs.Words.{spelled}
+use Rattle.spelling.specs.declared.Words.{Words}
 
 -- an exported list with this trail: its words, the output z, and both work meshes
 pub record Carried (t : Trail) (a b z : Mesh) (r : Words) (a′ b′ z′ : Mesh) : Type 0 where

@@ -3,22 +3,17 @@ use mathlib.Core.Path.{_≡_, refl, sym, _∙_, ap, subst}
 use mathlib.Core.Bool.{Bool, true, false, cond}
 use mathlib.Core.List.{List}
 use Prim.Native.Nat.{ℕ}
-use lib.ListN.{length, replicate}
-use Rattle.slices.specs.Lists.{over}
+use lib.ListN.{length}
 use Rattle.engine.specs.declared.Answer.{Answer}
 use Rattle.steps.specs.Steps.{Mesh, Room, Masks}
 use Rattle.steps.specs.declared.Step.{Step}
-use Rattle.steps.specs.declared.Step.the-variants.{Dual}
 use Rattle.chain.specs.Trail.{Trail, trail}
 use Rattle.chain.specs.declared.Ran.{Ran}
 use Rattle.runner.specs.Run.{runTrail, Went}
-use Rattle.lists.specs.Lists.{listSteps, metaArities, defaulted, masked, listMasks, listTrail, Listed}
-use Rattle.lists.specs.declared.NamedList.{NamedList}
-use Rattle.lists.specs.declared.NamedList.the-variants.{Bevel, Expand, Join, Medial, Meta, Needle, Ortho, Snub, Truncate, Zip}
-
--- the steps of a list by sixteen; past its own nothing reads them
-abbrev pub sixteen : NamedList → List Step
-sixteen l = over (listSteps l) (replicate 16 Dual)
+use Rattle.named.specs.Named.{listSteps, sixteen, metaArities, defaulted, masked, listMasks}
+use Rattle.named.specs.declared.NamedList.{NamedList}
+use Rattle.named.specs.declared.NamedList.the-variants.{Bevel, Expand, Join, Medial, Meta, Needle, Ortho, Snub, Truncate, Zip}
+use Rattle.lists.specs.Lists.{listTrail, Listed}
 
 run-of : (l : NamedList) (m : Masks) (w : Mesh) (a b z : Room) → runTrail m (sixteen l) (length (listSteps l)) w a b z ≡ listTrail l m w a b z
 unfolding runTrail listTrail

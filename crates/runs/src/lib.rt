@@ -16,8 +16,8 @@ use cases::line::put_mesh;
 use cases::line::put_name;
 use cases::line::put_numbers;
 use engine::Answer;
-use lists::NamedList;
 use more::More;
+use named::NamedList;
 use steps::Step;
 use zeros::put_work;
 

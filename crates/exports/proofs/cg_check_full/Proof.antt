@@ -1,4 +1,4 @@
-use Rattle.exports.specs.Words.{verdictWords}
+use Rattle.spelling.specs.Words.{verdictWords}
 use mathlib.Core.Path.{ap, _∙_}
 use borrow.Author.Needs.{needs}
 use Rattle.exports.proofs.cg_check_full.Statement.{statement}

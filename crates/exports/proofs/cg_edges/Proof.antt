@@ -1,4 +1,4 @@
-use Rattle.exports.specs.Words.{listingWords}
+use Rattle.spelling.specs.Words.{listingWords}
 use mathlib.Core.Path.{ap, _∙_}
 use borrow.Author.Needs.{needs}
 use Rattle.exports.proofs.cg_edges.Statement.{statement}

@@ -1,4 +1,6 @@
-use Rattle.exports.specs.Words.{told}
+use mathlib.Core.Path.{_≡_}
+use Rattle.spelling.specs.Words.{masked}
+use Rattle.exports.specs.Told.{told}
 use borrow.Author.Needs.{needs}
 use Rattle.exports.proofs.cg_kis.Statement.{statement}
 use Rattle.exports.proofs.cg_kis.Tie as tie
@@ -24,8 +26,12 @@ same-length-2 c = search needs
 same-length-3 : tie.Need-same-length-3
 same-length-3 c = search needs
 
+-- each flag in its own place
+flags : (c : tie.After-masked) → c .masked .result ≡ masked (c .before .before .before .before .before .before .before .before .before .before .args .has-arities) (c .before .before .before .before .before .before .before .before .before .before .args .has-numbers) (c .before .before .before .before .before .before .before .before .before .before .args .regular)
+flags c = c .masked .ensures
+
 returns : tie.Need-returns
-returns c = told (rw (c .before .before .before .before .before .before .before .before .before .before .before .before .optional .ensures, c .before .before .before .before .before .before .before .before .before .before .before .masked .ensures) at (c .before .before .before .before .before .before .before .kis .ensures)) (c .spell .ensures)
+returns c = told (rw (c .before .before .before .before .before .before .before .before .before .before .before .before .optional .ensures, flags (c .before .before .before .before .before .before .before .before .before .before .before)) at (c .before .before .before .before .before .before .before .kis .ensures)) (c .spell .ensures)
 
 pub cg-kis-spec : {M : Type 1} → statement M
 cg-kis-spec =

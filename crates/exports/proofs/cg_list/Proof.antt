@@ -1,3 +1,5 @@
+use mathlib.Core.Path.{_≡_}
+use Rattle.spelling.specs.Words.{optional}
 use Rattle.exports.specs.Runs.{list-told}
 use borrow.Author.Needs.{needs}
 use Rattle.exports.proofs.cg_list.Statement.{statement}
@@ -42,8 +44,12 @@ same-length-8 c = search needs
 same-length-9 : tie.Need-same-length-9
 same-length-9 c = search needs
 
+-- the ratio from its own flag and value
+ratio : (c : tie.After-optional) → c .optional .result ≡ optional (c .before .before .before .before .before .before .before .before .before .before .before .before .before .before .args .has-ratio) (c .before .before .before .before .before .before .before .before .before .before .before .before .before .before .args .ratio)
+ratio c = c .optional .ensures
+
 returns : tie.Need-returns
-returns c = list-told (rw (c .before .before .before .before .before .before .before .before .before .before .before .before .before .before .before .before .before .before .before .before .before .before .before .before .before .before .before .before .before .before .optional .ensures, c .before .before .before .before .before .before .before .before .before .before .before .before .before .before .before .before .before .before .before .before .before .before .before .before .before .before .before .before .before .optional2 .ensures) at (c .before .before .before .before .before .before .before .before .before .before .before .before .before .before .before .before .before .before .before .list .ensures)) (c .spell .ensures)
+returns c = list-told (rw (ratio (c .before .before .before .before .before .before .before .before .before .before .before .before .before .before .before .before .before .before .before .before .before .before .before .before .before .before .before .before .before .before), c .before .before .before .before .before .before .before .before .before .before .before .before .before .before .before .before .before .before .before .before .before .before .before .before .before .before .before .before .before .optional2 .ensures) at (c .before .before .before .before .before .before .before .before .before .before .before .before .before .before .before .before .before .before .before .list .ensures)) (c .spell .ensures)
 
 pub cg-list-spec : {M : Type 1} → statement M
 cg-list-spec =

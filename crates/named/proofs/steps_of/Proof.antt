@@ -1,127 +1,94 @@
 use borrow.Author.Needs.{needs}
-use Rattle.lists.proofs.steps_of.Statement.{statement}
-use Rattle.lists.proofs.steps_of.Tie as tie
-use Rattle.lists.proofs.steps_of.Reads as reads
-use Rattle.lists.proofs.steps_of.Lts as lts
-use Rattle.lists.proofs.six.Reads as six-reads
+use Rattle.named.proofs.steps_of.Statement.{statement}
+use Rattle.named.proofs.steps_of.Tie as tie
 
--- src/lib.rt:44:26
 enum-known-l : tie.Need-enum-known-l
 enum-known-l c = search needs
 
--- src/lib.rt:44:35
 six-requires : tie.Need-six-requires
 six-requires c κs = search needs
 
--- src/lib.rt:45:27
 enum-known-l-2 : tie.Need-enum-known-l-2
 enum-known-l-2 c = search needs
 
--- src/lib.rt:45:33
 six-requires-2 : tie.Need-six-requires-2
 six-requires-2 c κs = search needs
 
--- src/lib.rt:46:25
 enum-known-l-3 : tie.Need-enum-known-l-3
 enum-known-l-3 c = search needs
 
--- src/lib.rt:46:31
 six-requires-3 : tie.Need-six-requires-3
 six-requires-3 c κs = search needs
 
--- src/lib.rt:47:27
 enum-known-l-4 : tie.Need-enum-known-l-4
 enum-known-l-4 c = search needs
 
--- src/lib.rt:47:36
 six-requires-4 : tie.Need-six-requires-4
 six-requires-4 c κs = search needs
 
--- src/lib.rt:48:25
 enum-known-l-5 : tie.Need-enum-known-l-5
 enum-known-l-5 c = search needs
 
--- src/lib.rt:48:34
 six-requires-5 : tie.Need-six-requires-5
 six-requires-5 c κs = search needs
 
--- src/lib.rt:49:27
 enum-known-l-6 : tie.Need-enum-known-l-6
 enum-known-l-6 c = search needs
 
--- src/lib.rt:49:33
 six-requires-6 : tie.Need-six-requires-6
 six-requires-6 c κs = search needs
 
--- src/lib.rt:50:26
 enum-known-l-7 : tie.Need-enum-known-l-7
 enum-known-l-7 c = search needs
 
--- src/lib.rt:50:32
 six-requires-7 : tie.Need-six-requires-7
 six-requires-7 c κs = search needs
 
--- src/lib.rt:51:25
 enum-known-l-8 : tie.Need-enum-known-l-8
 enum-known-l-8 c = search needs
 
--- src/lib.rt:51:34
 six-requires-8 : tie.Need-six-requires-8
 six-requires-8 c κs = search needs
 
--- src/lib.rt:52:29
 enum-known-l-9 : tie.Need-enum-known-l-9
 enum-known-l-9 c = search needs
 
--- src/lib.rt:52:35
 six-requires-9 : tie.Need-six-requires-9
 six-requires-9 c κs = search needs
 
--- src/lib.rt:53:24
 enum-known-l-10 : tie.Need-enum-known-l-10
 enum-known-l-10 c = search needs
 
--- src/lib.rt:53:30
 six-requires-10 : tie.Need-six-requires-10
 six-requires-10 c κs = search needs
 
--- src/lib.rt:39:1
 returns : tie.Need-returns
 returns c = rw (c .before .before .l .given .1) (c .six .ensures)
 
--- src/lib.rt:39:1
 returns-2 : tie.Need-returns-2
 returns-2 c = rw (c .before .before .l2 .given .1) (c .six2 .ensures)
 
--- src/lib.rt:39:1
 returns-3 : tie.Need-returns-3
 returns-3 c = rw (c .before .before .l3 .given .1) (c .six3 .ensures)
 
--- src/lib.rt:39:1
 returns-4 : tie.Need-returns-4
 returns-4 c = rw (c .before .before .l4 .given .1) (c .six4 .ensures)
 
--- src/lib.rt:39:1
 returns-5 : tie.Need-returns-5
 returns-5 c = rw (c .before .before .l5 .given .1) (c .six5 .ensures)
 
--- src/lib.rt:39:1
 returns-6 : tie.Need-returns-6
 returns-6 c = rw (c .before .before .l6 .given .1) (c .six6 .ensures)
 
--- src/lib.rt:39:1
 returns-7 : tie.Need-returns-7
 returns-7 c = rw (c .before .before .l7 .given .1) (c .six7 .ensures)
 
--- src/lib.rt:39:1
 returns-8 : tie.Need-returns-8
 returns-8 c = rw (c .before .before .l8 .given .1) (c .six8 .ensures)
 
--- src/lib.rt:39:1
 returns-9 : tie.Need-returns-9
 returns-9 c = rw (c .before .before .l9 .given .1) (c .six9 .ensures)
 
--- src/lib.rt:39:1
 returns-10 : tie.Need-returns-10
 returns-10 c = rw (c .before .before .l10 .given .1) (c .six10 .ensures)
 

@@ -1,8 +1,7 @@
-use Rattle.exports.specs.Filing.{writtenWords}
-use mathlib.Core.Path.{ap, sym}
+use mathlib.Core.Path.{refl}
 use borrow.Author.Needs.{needs}
-use Rattle.exports.proofs.spell_written.Statement.{statement}
-use Rattle.exports.proofs.spell_written.Tie as tie
+use Rattle.spelling.proofs.spell_written.Statement.{statement}
+use Rattle.spelling.proofs.spell_written.Tie as tie
 
 enum-known-w : tie.Need-enum-known-w
 enum-known-w c = search needs
@@ -11,10 +10,10 @@ enum-known-w-2 : tie.Need-enum-known-w-2
 enum-known-w-2 c = search needs
 
 returns : tie.Need-returns
-returns c = ap writtenWords (sym (c .before .w .given .1))
+returns c = rw (c .before .w .given .1) refl
 
 returns-2 : tie.Need-returns-2
-returns-2 c = ap writtenWords (sym (c .before .w2 .given .1))
+returns-2 c = rw (c .before .w2 .given .1) refl
 
 pub spell-written-spec : {M : Type 1} → statement M
 spell-written-spec = tie.close (tie.spec enum-known-w enum-known-w-2 returns returns-2)
