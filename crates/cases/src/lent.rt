@@ -2,26 +2,48 @@
 // floats of these patterns.
 
 use crate::input::float_of;
+use crate::lists::Coords;
+use crate::lists::Numbers;
 use std::num::wrapping_add_u32;
 
-pub fn fill_numbers(list: &mut [u32], fill: u32) {
+fn fill_numbers(list: &mut [u32], n: usize, fill: u32) {
     let mut x = fill;
     let mut i = 0;
     while i < list.len() {
+        if i == n {
+            return;
+        }
         list[i] = x;
         x = wrapping_add_u32(x, 1);
         i += 1;
     }
 }
 
-pub fn fill_floats(list: &mut [f32], fill: u32) {
+// The memory of a lent slice of n numbers, which stand at its start.
+pub fn numbers(n: usize, fill: u32) -> Numbers {
+    let mut list = [0u32; 65536];
+    fill_numbers(&mut list, n, fill);
+    list
+}
+
+fn fill_floats(list: &mut [f32], n: usize, fill: u32) {
     let mut x = fill;
     let mut i = 0;
     while i < list.len() {
+        if i == n {
+            return;
+        }
         list[i] = float_of(x);
         x = wrapping_add_u32(x, 1);
         i += 1;
     }
+}
+
+// The same of n floats.
+pub fn floats(n: usize, fill: u32) -> Coords {
+    let mut list = [0.0f32; 196608];
+    fill_floats(&mut list, n, fill);
+    list
 }
 
 pub fn fill_pairs(list: &mut [[u32; 2]], fill: u32) {
@@ -32,11 +54,4 @@ pub fn fill_pairs(list: &mut [[u32; 2]], fill: u32) {
         x = wrapping_add_u32(x, 2);
         i += 1;
     }
-}
-
-// A lent mesh, all three of its slices.
-pub fn fill_mesh(offsets: &mut [u32], corners: &mut [u32], coords: &mut [f32], fill: u32) {
-    fill_numbers(offsets, fill);
-    fill_numbers(corners, fill);
-    fill_floats(coords, fill);
 }

@@ -4,6 +4,9 @@
 
 ghost use Prim.Native.Nat.{_<_, _≤_};
 ghost use lib.ListN.{length};
+use crate::header::Header;
+use crate::lists::Coords;
+use crate::lists::Numbers;
 use libc::STDOUT_FILENO;
 use point::Point;
 
@@ -93,10 +96,14 @@ pub fn put_point(text: &mut Text, at: usize, p: Point) -> usize {
     put_float(text, z, p.z)
 }
 
-pub fn put_numbers(text: &mut Text, at: usize, list: &[u32]) -> usize {
+// The first n of a list, or all of it.
+pub fn put_numbers(text: &mut Text, at: usize, list: &[u32], n: usize) -> usize {
     let mut to = at;
     let mut i = 0;
     while i < list.len() {
+        if i == n {
+            return to;
+        }
         to = put_number(text, to, list[i]);
         i += 1;
     }
@@ -114,30 +121,35 @@ pub fn put_pairs(text: &mut Text, at: usize, list: &[[u32; 2]]) -> usize {
     to
 }
 
-pub fn put_floats(text: &mut Text, at: usize, list: &[f32]) -> usize {
+// The first n floats of a list, or all of it.
+pub fn put_floats(text: &mut Text, at: usize, list: &[f32], n: usize) -> usize {
     let mut to = at;
     let mut i = 0;
     while i < list.len() {
+        if i == n {
+            return to;
+        }
         to = put_float(text, to, list[i]);
         i += 1;
     }
     to
 }
 
-// A mesh: each of its three lists after its letter.
+// The mesh that a case lends, each of its three lists after its letter.
 pub fn put_mesh(
     text: &mut Text,
     at: usize,
-    offsets: &[u32],
-    corners: &[u32],
-    coords: &[f32],
+    h: Header,
+    offsets: &Numbers,
+    corners: &Numbers,
+    coords: &Coords,
 ) -> usize {
     let o = put_name(text, at, b"o");
-    let past_o = put_numbers(text, o, offsets);
+    let past_o = put_numbers(text, o, offsets, h.out_offsets);
     let c = put_name(text, past_o, b"c");
-    let past_c = put_numbers(text, c, corners);
+    let past_c = put_numbers(text, c, corners, h.out_corners);
     let x = put_name(text, past_c, b"x");
-    put_floats(text, x, coords)
+    put_floats(text, x, coords, h.out_coords)
 }
 
 fn write_front(text: &[u8], n: usize)

@@ -23,17 +23,10 @@ pub fn read_lists(
 ) -> bool
     requires { ⌜ Within h ⌝ }
 {
-    if !read_list(block, offsets, h.offsets) {
-        return false;
-    }
-    if !read_list(block, corners, h.corners) {
-        return false;
-    }
-    if !read_list(block, bits, h.coords) {
-        return false;
-    }
-    if !read_list(block, arities, h.arities) {
-        return false;
-    }
-    read_list(block, faces, h.faces)
+    let o = read_list(block, offsets, h.offsets);
+    let c = read_list(block, corners, h.corners);
+    let x = read_list(block, bits, h.coords);
+    let a = read_list(block, arities, h.arities);
+    let f = read_list(block, faces, h.faces);
+    o & c & x & a & f
 }

@@ -2,6 +2,7 @@
 
 ghost use Prim.Native.Nat.{_≤_};
 ghost use lib.ListN.{length};
+ghost use Rattle.cases.specs.Header.{Within};
 use cases::header::Header;
 use cases::lent::fill_pairs;
 use cases::line::Text;
@@ -44,7 +45,7 @@ fn put_verdict(text: &mut Text, v: Verdict) -> usize {
 }
 
 // The answer for the mesh of a case: its edges, listed into the lent pairs.
-pub fn edges(
+fn with_pairs(
     text: &mut Text,
     h: Header,
     offsets: &[u32],
@@ -69,6 +70,17 @@ pub fn edges(
         &coords[..x],
         &mut pairs[..p],
     )
+}
+
+// The same with pairs of its own.
+pub fn edges(text: &mut Text, h: Header, offsets: &[u32], corners: &[u32], coords: &[f32]) -> usize
+    requires { ⌜ Within h ⌝ }
+    requires { ⌜ h .offsets ≤ length (now offsets) ⌝ }
+    requires { ⌜ h .corners ≤ length (now corners) ⌝ }
+    requires { ⌜ h .coords ≤ length (now coords) ⌝ }
+{
+    let mut pairs = [[0u32; 2]; 65536];
+    with_pairs(text, h, offsets, corners, coords, &mut pairs)
 }
 
 // 26: the pairs are printed whole, with what the call left alone.

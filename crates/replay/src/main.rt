@@ -25,8 +25,6 @@ use checks::edges;
 use leaves::one_face;
 use leaves::roots;
 
-type Pairs = [[u32; 2]; 65536];
-
 fn known(code: u32) -> bool {
     1 <= code && code <= 11 || 20 <= code && code <= 26
 }
@@ -41,26 +39,11 @@ fn answer(
     coords: &Coords,
     arities: &Numbers,
     faces: &Numbers,
-    xo: &mut Numbers,
-    xc: &mut Numbers,
-    xx: &mut Coords,
-    pairs: &mut Pairs,
 ) -> usize
     requires { ⌜ Within h ⌝ }
 {
     if h.code <= 11 {
-        return operator(
-            text,
-            h,
-            offsets,
-            corners,
-            coords,
-            arities,
-            faces,
-            xo,
-            xc,
-            xx,
-        );
+        return operator(text, h, offsets, corners, coords, arities, faces);
     }
     if h.code == 20 {
         return roots(text, h, bits);
@@ -71,7 +54,7 @@ fn answer(
     if h.code <= 25 {
         return checked(text, h, offsets, corners, coords);
     }
-    edges(text, h, offsets, corners, coords, pairs)
+    edges(text, h, offsets, corners, coords)
 }
 
 // One case, read and answered; whether another may follow.
@@ -84,10 +67,6 @@ fn one_case(
     coords: &mut Coords,
     arities: &mut Numbers,
     faces: &mut Numbers,
-    xo: &mut Numbers,
-    xc: &mut Numbers,
-    xx: &mut Coords,
-    pairs: &mut Pairs,
 ) -> bool {
     let got = read_front(block, 56);
     if got == 0 {
@@ -107,20 +86,7 @@ fn one_case(
         return bad_case(text);
     }
     floats_of(bits, coords, h.coords);
-    let at = answer(
-        h,
-        text,
-        offsets,
-        corners,
-        bits,
-        coords,
-        arities,
-        faces,
-        xo,
-        xc,
-        xx,
-        pairs,
-    );
+    let at = answer(h, text, offsets, corners, bits, coords, arities, faces);
     end(text, at);
     true
 }
@@ -136,28 +102,9 @@ fn all_cases(
     coords: &mut Coords,
     arities: &mut Numbers,
     faces: &mut Numbers,
-    xo: &mut Numbers,
-    xc: &mut Numbers,
-    xx: &mut Coords,
-    pairs: &mut Pairs,
 ) {
     let mut left = u64::MAX;
-    while left > 0
-        && one_case(
-            block,
-            text,
-            offsets,
-            corners,
-            bits,
-            coords,
-            arities,
-            faces,
-            xo,
-            xc,
-            xx,
-            pairs,
-        )
-    {
+    while left > 0 && one_case(block, text, offsets, corners, bits, coords, arities, faces) {
         left -= 1;
     }
 }
@@ -171,10 +118,6 @@ fn main() {
     let mut coords = [0.0f32; 196608];
     let mut arities = [0u32; 65536];
     let mut faces = [0u32; 65536];
-    let mut xo = [0u32; 65536];
-    let mut xc = [0u32; 65536];
-    let mut xx = [0.0f32; 196608];
-    let mut pairs = [[0u32; 2]; 65536];
     all_cases(
         &mut block,
         &mut text,
@@ -184,9 +127,5 @@ fn main() {
         &mut coords,
         &mut arities,
         &mut faces,
-        &mut xo,
-        &mut xc,
-        &mut xx,
-        &mut pairs,
     );
 }

@@ -2,8 +2,10 @@
 
 ghost use Prim.Native.Nat.{_≤_};
 ghost use lib.ListN.{length};
+ghost use Rattle.cases.specs.Header.{Within};
 use cases::header::Header;
-use cases::lent::fill_mesh;
+use cases::lent::floats;
+use cases::lent::numbers;
 use cases::line::Text;
 use cases::line::put_bits;
 use cases::line::put_float;
@@ -107,45 +109,25 @@ fn put_steps(text: &mut Text, at: usize, all: [Step; 16]) -> usize {
 }
 
 // The steps are printed all sixteen, the lent mesh whole, with what the call left alone.
-fn of_file(
-    text: &mut Text,
-    fill: u32,
-    bytes: &[u8],
-    xo: &mut [u32],
-    xc: &mut [u32],
-    xp: &mut [f32],
-) -> usize {
-    fill_mesh(xo, xc, xp, fill);
-    let filed = panel::read(bytes, xo, xc, xp);
-    let at = put_filed(text, filed);
-    let past = put_steps(text, at, panel::steps(bytes));
-    put_mesh(text, past, xo, xc, xp)
-}
-
-// The answer for the n bytes of a case's file.
-pub fn file(
-    text: &mut Text,
-    h: Header,
-    n: usize,
-    bytes: &[u8],
-    xo: &mut [u32],
-    xc: &mut [u32],
-    xp: &mut [f32],
-) -> usize
-    requires { ⌜ n ≤ length (now bytes) ⌝ }
-    requires { ⌜ h .«out_offsets» ≤ length (now xo) ⌝ }
-    requires { ⌜ h .«out_corners» ≤ length (now xc) ⌝ }
-    requires { ⌜ h .«out_coords» ≤ length (now xp) ⌝ }
+fn of_file(text: &mut Text, h: Header, bytes: &[u8]) -> usize
+    requires { ⌜ Within h ⌝ }
 {
     let p = h.out_offsets;
     let q = h.out_corners;
     let r = h.out_coords;
-    of_file(
-        text,
-        h.fill,
-        &bytes[..n],
-        &mut xo[..p],
-        &mut xc[..q],
-        &mut xp[..r],
-    )
+    let mut xo = numbers(p, h.fill);
+    let mut xc = numbers(q, h.fill);
+    let mut xp = floats(r, h.fill);
+    let filed = panel::read(bytes, &mut xo[..p], &mut xc[..q], &mut xp[..r]);
+    let at = put_filed(text, filed);
+    let past = put_steps(text, at, panel::steps(bytes));
+    put_mesh(text, past, h, &xo, &xc, &xp)
+}
+
+// The answer for the n bytes of a case's file.
+pub fn file(text: &mut Text, h: Header, bytes: &[u8], n: usize) -> usize
+    requires { ⌜ Within h ⌝ }
+    requires { ⌜ n ≤ length (now bytes) ⌝ }
+{
+    of_file(text, h, &bytes[..n])
 }

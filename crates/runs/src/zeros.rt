@@ -1,8 +1,11 @@
 // Whether a work mesh reads zero: 1 where all of it does, else 0.
 
+use crate::more::More;
 use cases::line::Text;
 use cases::line::put_name;
 use cases::line::put_number;
+use cases::lists::Coords;
+use cases::lists::Numbers;
 
 fn is_zero(x: f32) -> bool {
     if x != x {
@@ -11,9 +14,13 @@ fn is_zero(x: f32) -> bool {
     f32::to_bits(x) == 0
 }
 
-fn numbers_zero(list: &[u32]) -> bool {
+// Whether the first n of a list, or all of it, are zero.
+fn numbers_zero(list: &[u32], n: usize) -> bool {
     let mut i = 0;
     while i < list.len() {
+        if i == n {
+            return true;
+        }
         if list[i] != 0 {
             return false;
         }
@@ -22,9 +29,12 @@ fn numbers_zero(list: &[u32]) -> bool {
     true
 }
 
-fn floats_zero(list: &[f32]) -> bool {
+fn floats_zero(list: &[f32], n: usize) -> bool {
     let mut i = 0;
     while i < list.len() {
+        if i == n {
+            return true;
+        }
         if !is_zero(list[i]) {
             return false;
         }
@@ -33,8 +43,19 @@ fn floats_zero(list: &[f32]) -> bool {
     true
 }
 
-fn put_zero(text: &mut Text, at: usize, o: &[u32], c: &[u32], x: &[f32]) -> usize {
-    if numbers_zero(o) && numbers_zero(c) && floats_zero(x) {
+// A work mesh, whose slices were lent as long as these numbers say.
+fn put_zero(
+    text: &mut Text,
+    at: usize,
+    o: &Numbers,
+    p: usize,
+    c: &Numbers,
+    q: usize,
+    x: &Coords,
+    r: usize,
+) -> usize {
+    let zero = numbers_zero(o, p) & numbers_zero(c, q) & floats_zero(x, r);
+    if zero {
         return put_number(text, at, 1);
     }
     put_number(text, at, 0)
@@ -44,14 +65,15 @@ fn put_zero(text: &mut Text, at: usize, o: &[u32], c: &[u32], x: &[f32]) -> usiz
 pub fn put_work(
     text: &mut Text,
     at: usize,
-    ao: &[u32],
-    ac: &[u32],
-    ap: &[f32],
-    bo: &[u32],
-    bc: &[u32],
-    bp: &[f32],
+    m: More,
+    ao: &Numbers,
+    ac: &Numbers,
+    ap: &Coords,
+    bo: &Numbers,
+    bc: &Numbers,
+    bp: &Coords,
 ) -> usize {
     let first = put_name(text, at, b"w");
-    let second = put_zero(text, first, ao, ac, ap);
-    put_zero(text, second, bo, bc, bp)
+    let second = put_zero(text, first, ao, m.ao, ac, m.ac, ap, m.ap);
+    put_zero(text, second, bo, m.bo, bc, m.bc, bp, m.bp)
 }

@@ -3,10 +3,10 @@ use Rattle.replay.proofs.all_cases.Statement.{statement}
 use Rattle.replay.proofs.all_cases.Tie as tie
 
 abbrev Inv-loop : tie.InvT-loop
-Inv-loop block₀ text₀ offsets₀ corners₀ bits₀ coords₀ arities₀ faces₀ xo₀ xc₀ xx₀ pairs₀ left₀ block text offsets corners bits coords arities faces xo xc xx pairs left = Unit {0}
+Inv-loop block₀ text₀ offsets₀ corners₀ bits₀ coords₀ arities₀ faces₀ left₀ block text offsets corners bits coords arities faces left = Unit {0}
 
 abbrev μ-loop : tie.MeasureT-loop
-μ-loop block₀ text₀ offsets₀ corners₀ bits₀ coords₀ arities₀ faces₀ xo₀ xc₀ xx₀ pairs₀ left₀ block text offsets corners bits coords arities faces xo xc xx pairs left = left
+μ-loop block₀ text₀ offsets₀ corners₀ bits₀ coords₀ arities₀ faces₀ left₀ block text offsets corners bits coords arities faces left = left
 
 loop-holds : tie.Need-loop-holds Inv-loop μ-loop
 loop-holds c = search needs

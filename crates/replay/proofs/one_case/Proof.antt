@@ -49,7 +49,7 @@ floats-of-requires : tie.Need-floats-of-requires
 floats-of-requires c κs = let w = c .before .before .before .before .before .before .before .before .before .before .before .before .within .ensures (not-false _ (c .before .before .before .before .before .before .before .before .before .before .before .if4 .left)) in search needs
 
 answer-requires : tie.Need-answer-requires
-answer-requires c κs = c .before .before .before .before .before .before .before .before .before .before .before .before .before .before .before .before .before .before .before .before .before .before .before .before .within .ensures (not-false _ (c .before .before .before .before .before .before .before .before .before .before .before .before .before .before .before .before .before .before .before .before .before .before .before .if4 .left))
+answer-requires c κs = c .before .before .before .before .before .before .before .before .before .before .before .before .before .before .before .before .before .before .before .before .within .ensures (not-false _ (c .before .before .before .before .before .before .before .before .before .before .before .before .before .before .before .before .before .before .before .if4 .left))
 
 end-requires : tie.Need-end-requires
 end-requires c κs = search needs

@@ -3,10 +3,10 @@ use Rattle.rerun.proofs.all_cases.Statement.{statement}
 use Rattle.rerun.proofs.all_cases.Tie as tie
 
 abbrev Inv-loop : tie.InvT-loop
-Inv-loop block₀ text₀ offsets₀ corners₀ coords₀ arities₀ ao₀ ac₀ ap₀ bo₀ bc₀ bp₀ xo₀ xc₀ xp₀ ledger₀ bytes₀ left₀ block text offsets corners coords arities ao ac ap bo bc bp xo xc xp ledger bytes left = Unit {0}
+Inv-loop block₀ text₀ offsets₀ corners₀ coords₀ arities₀ bytes₀ left₀ block text offsets corners coords arities bytes left = Unit {0}
 
 abbrev μ-loop : tie.MeasureT-loop
-μ-loop block₀ text₀ offsets₀ corners₀ coords₀ arities₀ ao₀ ac₀ ap₀ bo₀ bc₀ bp₀ xo₀ xc₀ xp₀ ledger₀ bytes₀ left₀ block text offsets corners coords arities ao ac ap bo bc bp xo xc xp ledger bytes left = left
+μ-loop block₀ text₀ offsets₀ corners₀ coords₀ arities₀ bytes₀ left₀ block text offsets corners coords arities bytes left = left
 
 loop-holds : tie.Need-loop-holds Inv-loop μ-loop
 loop-holds c = search needs

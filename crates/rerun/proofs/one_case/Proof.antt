@@ -21,8 +21,8 @@ header-of-requires c κs = search needs
 more-of-requires : tie.Need-more-of-requires
 more-of-requires c κs = search needs
 
-known-requires : tie.Need-known-requires
-known-requires c κs = search needs
+sound-requires : tie.Need-sound-requires
+sound-requires c κs = search needs
 
 bad-case-requires-2 : tie.Need-bad-case-requires-2
 bad-case-requires-2 c κs = search needs
@@ -30,62 +30,17 @@ bad-case-requires-2 c κs = search needs
 returns-3 : tie.Need-returns-3
 returns-3 c = search needs
 
-within-requires : tie.Need-within-requires
-within-requires c κs = search needs
-
-bad-case-requires-3 : tie.Need-bad-case-requires-3
-bad-case-requires-3 c κs = search needs
+whole-requires : tie.Need-whole-requires
+whole-requires c κs = c .before .before .before .before .before .before .before .before .sound .ensures (not-false _ (c .before .before .before .before .before .before .before .if3 .left))
 
 returns-4 : tie.Need-returns-4
 returns-4 c = search needs
 
-fits-requires : tie.Need-fits-requires
-fits-requires c κs = search needs
-
-bad-case-requires-4 : tie.Need-bad-case-requires-4
-bad-case-requires-4 c κs = search needs
+bad-case-requires-3 : tie.Need-bad-case-requires-3
+bad-case-requires-3 c κs = search needs
 
 returns-5 : tie.Need-returns-5
 returns-5 c = search needs
-
-read-lists-requires : tie.Need-read-lists-requires
-read-lists-requires c κs = c .before .before .before .before .before .before .before .before .before .within .ensures (not-false _ (c .before .before .before .before .before .before .before .before .if4 .left))
-
-bad-case-requires-5 : tie.Need-bad-case-requires-5
-bad-case-requires-5 c κs = search needs
-
-returns-6 : tie.Need-returns-6
-returns-6 c = search needs
-
-read-steps-requires : tie.Need-read-steps-requires
-read-steps-requires c κs = let w = c .before .before .before .before .before .before .before .before .before .before .fits2 .ensures (not-false _ (c .before .before .before .before .before .before .before .before .before .if5 .left)) in w .steps
-
-bad-case-requires-6 : tie.Need-bad-case-requires-6
-bad-case-requires-6 c κs = search needs
-
-returns-7 : tie.Need-returns-7
-returns-7 c = search needs
-
-read-file-requires : tie.Need-read-file-requires
-read-file-requires c κs = let w = c .before .before .before .before .before .before .before .before .before .before .before .before .before .fits2 .ensures (not-false _ (c .before .before .before .before .before .before .before .before .before .before .before .before .if5 .left)) in w .bytes
-
-bad-case-requires-7 : tie.Need-bad-case-requires-7
-bad-case-requires-7 c κs = search needs
-
-returns-8 : tie.Need-returns-8
-returns-8 c = search needs
-
-steps-of-requires : tie.Need-steps-of-requires
-steps-of-requires c κs = search needs
-
-answer-requires : tie.Need-answer-requires
-answer-requires c κs = (c .before .before .before .before .before .before .before .before .before .before .before .before .before .before .before .before .before .before .before .before .before .before .before .before .before .before .before .before .before .before .before .before .before .before .before .within .ensures (not-false _ (c .before .before .before .before .before .before .before .before .before .before .before .before .before .before .before .before .before .before .before .before .before .before .before .before .before .before .before .before .before .before .before .before .before .before .if4 .left)), c .before .before .before .before .before .before .before .before .before .before .before .before .before .before .before .before .before .before .before .before .before .before .before .before .before .before .before .before .before .before .before .before .before .fits2 .ensures (not-false _ (c .before .before .before .before .before .before .before .before .before .before .before .before .before .before .before .before .before .before .before .before .before .before .before .before .before .before .before .before .before .before .before .before .if5 .left)))
-
-end-requires : tie.Need-end-requires
-end-requires c κs = search needs
-
-returns-9 : tie.Need-returns-9
-returns-9 c = search needs
 
 pub one-case-spec : {M : Type 1} → statement M
 one-case-spec =
@@ -97,25 +52,10 @@ one-case-spec =
     returns-2
     header-of-requires
     more-of-requires
-    known-requires
+    sound-requires
     bad-case-requires-2
     returns-3
-    within-requires
-    bad-case-requires-3
+    whole-requires
     returns-4
-    fits-requires
-    bad-case-requires-4
-    returns-5
-    read-lists-requires
-    bad-case-requires-5
-    returns-6
-    read-steps-requires
-    bad-case-requires-6
-    returns-7
-    read-file-requires
-    bad-case-requires-7
-    returns-8
-    steps-of-requires
-    answer-requires
-    end-requires
-    returns-9)
+    bad-case-requires-3
+    returns-5)

@@ -6,10 +6,10 @@ use Rattle.cases.proofs.lent.fill_floats.Statement.{statement}
 use Rattle.cases.proofs.lent.fill_floats.Tie as tie
 
 abbrev Inv-loop : tie.InvT-loop
-Inv-loop list₀ fill x₀ i₀ list x i = (i ≤ length list₀) × (length list ≡ length list₀)
+Inv-loop list₀ n fill x₀ i₀ list x i = (i ≤ length list₀) × (length list ≡ length list₀)
 
 abbrev μ-loop : tie.MeasureT-loop
-μ-loop list₀ fill x₀ i₀ list x i = length list₀ - i
+μ-loop list₀ n fill x₀ i₀ list x i = length list₀ - i
 
 loop-holds : tie.Need-loop-holds Inv-loop μ-loop
 loop-holds c = search needs
@@ -41,6 +41,12 @@ same-length c = search needs
 returns : tie.Need-returns Inv-loop μ-loop
 returns c = search needs
 
+same-length-2 : tie.Need-same-length-2 Inv-loop μ-loop
+same-length-2 c = search needs
+
+returns-2 : tie.Need-returns-2 Inv-loop μ-loop
+returns-2 c = search needs
+
 pub fill-floats-spec : {M : Type 1} → statement M
 fill-floats-spec =
     tie.close
@@ -48,6 +54,8 @@ fill-floats-spec =
     Inv-loop
     μ-loop
     loop-holds
+    same-length
+    returns
     float-of-requires
     mul-list
     slice-write-list
@@ -55,5 +63,5 @@ fill-floats-spec =
     add-i
     loop-less
     loop-again
-    same-length
-    returns)
+    same-length-2
+    returns-2)

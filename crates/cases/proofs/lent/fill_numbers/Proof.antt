@@ -6,10 +6,10 @@ use Rattle.cases.proofs.lent.fill_numbers.Statement.{statement}
 use Rattle.cases.proofs.lent.fill_numbers.Tie as tie
 
 abbrev Inv-loop : tie.InvT-loop
-Inv-loop list₀ fill x₀ i₀ list x i = (i ≤ length list₀) × (length list ≡ length list₀)
+Inv-loop list₀ n fill x₀ i₀ list x i = (i ≤ length list₀) × (length list ≡ length list₀)
 
 abbrev μ-loop : tie.MeasureT-loop
-μ-loop list₀ fill x₀ i₀ list x i = length list₀ - i
+μ-loop list₀ n fill x₀ i₀ list x i = length list₀ - i
 
 loop-holds : tie.Need-loop-holds Inv-loop μ-loop
 loop-holds c = search needs
@@ -38,6 +38,12 @@ same-length c = search needs
 returns : tie.Need-returns Inv-loop μ-loop
 returns c = search needs
 
+same-length-2 : tie.Need-same-length-2 Inv-loop μ-loop
+same-length-2 c = search needs
+
+returns-2 : tie.Need-returns-2 Inv-loop μ-loop
+returns-2 c = search needs
+
 pub fill-numbers-spec : {M : Type 1} → statement M
 fill-numbers-spec =
     tie.close
@@ -45,11 +51,13 @@ fill-numbers-spec =
     Inv-loop
     μ-loop
     loop-holds
+    same-length
+    returns
     mul-list
     slice-write-list
     wrapping-add-u32-requires
     add-i
     loop-less
     loop-again
-    same-length
-    returns)
+    same-length-2
+    returns-2)

@@ -5,49 +5,22 @@ use Rattle.replay.proofs.calls.operator.Statement.{statement}
 use Rattle.replay.proofs.calls.operator.Tie as tie
 
 slice-aggregate-play : tie.Need-slice-aggregate-play
-slice-aggregate-play c = sym (length-take-le _ _ (c .before .before .before .before .before .before .before .before .before .before .pre .0))
+slice-aggregate-play c = sym (length-take-le _ _ (c .before .before .before .before .before .before .before .pre .1 .0))
 
 slice-aggregate-play-2 : tie.Need-slice-aggregate-play-2
-slice-aggregate-play-2 c = sym (length-take-le _ _ (c .before .before .before .before .before .before .before .before .before .before .before .pre .1 .0))
+slice-aggregate-play-2 c = sym (length-take-le _ _ (c .before .before .before .before .before .before .before .before .pre .1 .1 .0))
 
 slice-aggregate-play-3 : tie.Need-slice-aggregate-play-3
-slice-aggregate-play-3 c = sym (length-take-le _ _ (c .before .before .before .before .before .before .before .before .before .before .before .before .pre .1 .1 .0))
+slice-aggregate-play-3 c = sym (length-take-le _ _ (c .before .before .before .before .before .before .before .before .before .pre .1 .1 .1 .0))
 
 slice-aggregate-play-4 : tie.Need-slice-aggregate-play-4
-slice-aggregate-play-4 c = sym (length-take-le _ _ (c .before .before .before .before .before .before .before .before .before .before .before .before .before .pre .1 .1 .1 .0))
+slice-aggregate-play-4 c = sym (length-take-le _ _ (c .before .before .before .before .before .before .before .before .before .before .pre .1 .1 .1 .1 .0))
 
 slice-aggregate-play-5 : tie.Need-slice-aggregate-play-5
-slice-aggregate-play-5 c = sym (length-take-le _ _ (c .before .before .before .before .before .before .before .before .before .before .before .before .before .before .pre .1 .1 .1 .1 .0))
-
-slice-relend-prefix-play : tie.Need-slice-relend-prefix-play
-slice-relend-prefix-play c = search needs
-
-slice-aggregate-play-6 : tie.Need-slice-aggregate-play-6
-slice-aggregate-play-6 c = sym (length-take-le _ _ (c .before .before .before .before .before .before .before .before .before .before .before .before .before .before .before .pre .1 .1 .1 .1 .1 .0))
-
-slice-relend-prefix-play-2 : tie.Need-slice-relend-prefix-play-2
-slice-relend-prefix-play-2 c = search needs
-
-slice-aggregate-play-7 : tie.Need-slice-aggregate-play-7
-slice-aggregate-play-7 c = sym (length-take-le _ _ (c .before .before .before .before .before .before .before .before .before .before .before .before .before .before .before .before .pre .1 .1 .1 .1 .1 .1 .0))
-
-slice-relend-prefix-play-3 : tie.Need-slice-relend-prefix-play-3
-slice-relend-prefix-play-3 c = search needs
-
-slice-aggregate-play-8 : tie.Need-slice-aggregate-play-8
-slice-aggregate-play-8 c = sym (length-take-le _ _ (c .before .before .before .before .before .before .before .before .before .before .before .before .before .before .before .before .before .pre .1 .1 .1 .1 .1 .1 .1))
+slice-aggregate-play-5 c = sym (length-take-le _ _ (c .before .before .before .before .before .before .before .before .before .before .before .pre .1 .1 .1 .1 .1))
 
 play-requires : tie.Need-play-requires
-play-requires c κs = search needs
-
-same-length : tie.Need-same-length
-same-length c = search needs
-
-same-length-2 : tie.Need-same-length-2
-same-length-2 c = search needs
-
-same-length-3 : tie.Need-same-length-3
-same-length-3 c = search needs
+play-requires c κs = c .before .before .before .before .before .before .before .before .before .before .before .pre .0
 
 returns : tie.Need-returns
 returns c = search needs
@@ -61,14 +34,5 @@ operator-spec =
     slice-aggregate-play-3
     slice-aggregate-play-4
     slice-aggregate-play-5
-    slice-relend-prefix-play
-    slice-aggregate-play-6
-    slice-relend-prefix-play-2
-    slice-aggregate-play-7
-    slice-relend-prefix-play-3
-    slice-aggregate-play-8
     play-requires
-    same-length
-    same-length-2
-    same-length-3
     returns)

@@ -5,10 +5,10 @@ use Rattle.runs.proofs.zeros.floats_zero.Statement.{statement}
 use Rattle.runs.proofs.zeros.floats_zero.Tie as tie
 
 abbrev Inv-loop : tie.InvT-loop
-Inv-loop list i₀ i = i ≤ length list
+Inv-loop list n i₀ i = i ≤ length list
 
 abbrev μ-loop : tie.MeasureT-loop
-μ-loop list i₀ i = length list - i
+μ-loop list n i₀ i = length list - i
 
 loop-holds : tie.Need-loop-holds Inv-loop μ-loop
 loop-holds c = search needs
@@ -37,6 +37,9 @@ loop-again c = search needs
 returns-2 : tie.Need-returns-2 Inv-loop μ-loop
 returns-2 c = search needs
 
+returns-3 : tie.Need-returns-3 Inv-loop μ-loop
+returns-3 c = search needs
+
 pub floats-zero-spec : {M : Type 1} → statement M
 floats-zero-spec =
     tie.close
@@ -44,11 +47,12 @@ floats-zero-spec =
     Inv-loop
     μ-loop
     loop-holds
+    returns
     mul-is-zero
     shared-slice-read-is-zero
     is-zero-requires
-    returns
+    returns-2
     add-i
     loop-less
     loop-again
-    returns-2)
+    returns-3)

@@ -1,8 +1,8 @@
 use lib.Seq.{length-take-le}
 use mathlib.Core.Path.{sym}
 use borrow.Author.Needs.{needs}
-use Rattle.replay.proofs.checks.edges.Statement.{statement}
-use Rattle.replay.proofs.checks.edges.Tie as tie
+use Rattle.replay.proofs.checks.with_pairs.Statement.{statement}
+use Rattle.replay.proofs.checks.with_pairs.Tie as tie
 
 slice-aggregate-list-edges : tie.Need-slice-aggregate-list-edges
 slice-aggregate-list-edges c = sym (length-take-le _ _ (c .before .before .before .before .before .pre .0))
@@ -28,8 +28,8 @@ same-length c = search needs
 returns : tie.Need-returns
 returns c = search needs
 
-pub edges-spec : {M : Type 1} → statement M
-edges-spec =
+pub with-pairs-spec : {M : Type 1} → statement M
+with-pairs-spec =
     tie.close
     (tie.spec
     slice-aggregate-list-edges
