@@ -12,8 +12,8 @@ use Rattle.mesh.specs.Mesh.{faceOf, next, prev, window, mate, turn}
 use Rattle.mesh.specs.Edges.{up, rank}
 use Rattle.mesh.specs.Tests.{verdict, wrongOffsets, wrongShape, tooMany, sizeTests, faceTests, edgeTests, tests}
 use Rattle.root.specs.Sqrt.{root32, rootBits}
-use Rattle.point.specs.Face.{centroidOf, sumTo}
-use Rattle.point.specs.Normal.{taken, cornerNormal, tallyTo, averaged, averageNormalOf}
+use Rattle.faces.specs.Face.{centroidOf, sumTo}
+use Rattle.faces.specs.Normal.{taken, cornerNormal, tallyTo, averaged, averageNormalOf}
 use Rattle.picks.specs.Picks.{picked, allows}
 use Rattle.spots.specs.Points.{changeOf, spotOf, tipOf, middleOf}
 use Rattle.rule.specs.Rule.{vertexAt, made, inner, splits}

@@ -1,6 +1,6 @@
 -- What the tests up to 9 leave known of a mesh in one record; ascending windows, and the rank of an edge among them.
 -- Assumes nothing.
-use Prim.Native.Nat.{ℕ, _/_, _≤_, _<_}
+use Prim.Native.Nat.{ℕ, _+_, _*_, _/_, _≤_, _<_}
 use mathlib.Core.Path.{_≡_, _∙_, ap}
 use mathlib.Core.Bool.{Bool, true, false, cond}
 use mathlib.Core.List.{List}
@@ -10,7 +10,6 @@ use lib.Dec.{ltb}
 use lib.Ieee.{Float}
 use borrow.Author.Tests.{lt-ltb, le-ltb, leb-false}
 use Rattle.slices.specs.First.{count, count-le, nowhere}
-use Rattle.point.specs.Face.{InReach}
 use Rattle.mesh.specs.Mesh.{faces, faceOf, next, nextIn, prev, prevIn, mate, window, orderedOf}
 use Rattle.mesh.specs.Tests.{limit, outside, verdict, passed, sizeTests, faceTests, edgeTests, tests, tests-good}
 use Rattle.mesh.specs.Shape.{Shaped, In, Full, Limited, next-at, size-good, face-good}
@@ -51,7 +50,7 @@ tests-sound o k x e =
     (sound o k x (g .0) (g .1 .0) (g .1 .1), size-good o (length k) (length x) (g .0) .1)
 
 -- test 6: each vertex number has its three coordinates
-pub reached : (o k : List ℕ) (x : List Float) → verdict (faceTests o k x) ≡ Good → InReach x k
+pub reached : (o k : List ℕ) (x : List Float) → verdict (faceTests o k x) ≡ Good → (c : ℕ) → c < length k → getD k c 0 * 3 + 3 ≤ length x
 unfolding faceTests
 reached o k x e c h =
     let w : outside k (length x / 3) c ≡ false = nowhere (outside k (length x / 3)) (length k) (passed _ _ (passed _ _ (passed _ _ e .1) .1) .0) c h in

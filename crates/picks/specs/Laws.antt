@@ -7,7 +7,7 @@ use lib.Dec.{ltb}
 use lib.ListN.{length, take, drop}
 use lib.Ieee.{Float}
 use Rattle.slices.specs.First.{first, isAt}
-use Rattle.point.specs.Regular.{regularOf}
+use Rattle.faces.specs.Regular.{regularOf}
 use Rattle.mesh.specs.Mesh.{faces, start, end, arity}
 use Rattle.picks.specs.Picks.{allows, picked}
 use Rattle.picks.specs.declared.Mask.{Mask}

@@ -5,7 +5,7 @@ use Prim.Native.Nat.{ℕ}
 use lib.ListN.{length}
 use lib.Ieee.{Float}
 use Rattle.slices.specs.First.{any, isAt}
-use Rattle.point.specs.Regular.{regularOf}
+use Rattle.faces.specs.Regular.{regularOf}
 use Rattle.mesh.specs.Mesh.{arity, run}
 use Rattle.picks.specs.declared.Mask.{Mask}
 

@@ -5,8 +5,8 @@ use Prim.Native.Nat.{ℕ, _-_, _<_, _≤_}
 use native.Mathlib.Omega.{arith}
 use lib.ListN.{length, take, drop}
 use lib.Ieee.{Float}
-use Rattle.point.specs.Face.{InReach}
-use Rattle.point.specs.FaceLaws.{length-part, part-reach}
+use Rattle.faces.specs.Face.{InReach}
+use Rattle.faces.specs.FaceLaws.{length-part, part-reach}
 use Rattle.mesh.specs.Mesh.{faces, start, end, arity, run}
 use Rattle.mesh.specs.Shape.{end-le}
 use Rattle.mesh.specs.Edges.{Faced}

@@ -5,8 +5,8 @@ ghost use mathlib.Core.Bool.{true, cond};
 ghost use Prim.Native.Nat.{_<_, _≤_};
 ghost use lib.ListN.{length};
 ghost use Rattle.slices.specs.First.{count};
-ghost use Rattle.point.specs.Face.{InReach};
-ghost use Rattle.point.specs.Regular.{regularOf};
+ghost use Rattle.faces.specs.Face.{InReach};
+ghost use Rattle.faces.specs.Regular.{regularOf};
 ghost use Rattle.mesh.specs.Mesh.{faces};
 ghost use Rattle.mesh.specs.Edges.{Faced};
 ghost use Rattle.picks.specs.Picks.{allows, picked};
@@ -35,7 +35,7 @@ pub fn shaped(asked: bool, coords: &[f32], run: &[u32]) -> bool
     ensures { λ r. ⌜ r ≡ cond asked (regularOf (now (coords .entry)) (now (run .entry))) true ⌝ }
 {
     if asked {
-        return point::is_regular(coords, run);
+        return faces::is_regular(coords, run);
     }
     true
 }

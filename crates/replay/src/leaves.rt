@@ -4,7 +4,7 @@ ghost use mathlib.Core.Path.{_≡_};
 ghost use mathlib.Core.Bool.{true};
 ghost use Prim.Native.Nat.{_≤_};
 ghost use lib.ListN.{length};
-ghost use Rattle.point.specs.Face.{InReach};
+ghost use Rattle.faces.specs.Face.{InReach};
 use cases::header::Header;
 use cases::line::Text;
 use cases::line::put_bits;
@@ -63,15 +63,15 @@ fn of_face(text: &mut Text, code: u32, coords: &[f32], face: &[u32]) -> usize {
         return unfit(text);
     }
     if code == 21 {
-        return put_point(text, 0, point::centroid(coords, face));
+        return put_point(text, 0, faces::centroid(coords, face));
     }
     if code == 22 {
-        return put_point(text, 0, point::average_normal(coords, face));
+        return put_point(text, 0, faces::average_normal(coords, face));
     }
     if face.len() == 0 {
         return unfit(text);
     }
-    if point::is_regular(coords, face) {
+    if faces::is_regular(coords, face) {
         return put_number(text, 0, 1);
     }
     put_number(text, 0, 0)

@@ -5,7 +5,7 @@ ghost use mathlib.Core.Bool.{cond};
 ghost use mathlib.Core.List.{[], _∷_};
 ghost use Prim.Native.Nat.{_+_, _<_, _≤_};
 ghost use lib.ListN.{length, take};
-ghost use Rattle.point.specs.Face.{InReach};
+ghost use Rattle.faces.specs.Face.{InReach};
 ghost use Rattle.mesh.specs.Mesh as Mesh;
 ghost use Rattle.mesh.specs.Mesh.{faces, arity};
 ghost use Rattle.mesh.specs.Tests.{facesAt};
@@ -363,8 +363,8 @@ pub fn diagonal_of(coords: &[f32], run: &[u32], i: usize, j: usize) -> f32
 {
     let a = slices::look(run, i);
     let b = slices::look(run, j);
-    let p = point::point_at(coords, a);
-    let q = point::point_at(coords, b);
+    let p = faces::point_at(coords, a);
+    let q = faces::point_at(coords, b);
     let d = p.sub(q);
     d.mag_sq()
 }

@@ -8,7 +8,7 @@ ghost use lib.ListN.{length, take};
 ghost use Rattle.mesh.specs.Mesh.{faces, arity};
 ghost use Rattle.mesh.specs.Edges.{Sound, Faced};
 ghost use Rattle.rule.specs.Rule.{vertexAt, inner, splits, old, apexed, facesAtPlace, facePlaces, sectionOf};
-ghost use Rattle.point.specs.Face.{InReach};
+ghost use Rattle.faces.specs.Face.{InReach};
 ghost use Rattle.rule.specs.Slots.{Low};
 ghost use Rattle.rule.specs.declared.Move.the-variants.{Here};
 ghost use Rattle.rule.specs.declared.Shape.the-variants.{Picks};

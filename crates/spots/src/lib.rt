@@ -5,7 +5,7 @@ ghost use mathlib.Core.List.{[], _++_};
 ghost use mathlib.Core.Bool.{cond};
 ghost use Prim.Native.Nat.{_+_, _-_, _*_, _/_, _<_, _≤_};
 ghost use lib.ListN.{length};
-ghost use Rattle.point.specs.Face.{coordsOf, InReach};
+ghost use Rattle.faces.specs.Face.{coordsOf, InReach};
 ghost use Rattle.point.specs.Finite.{firstBad};
 ghost use Rattle.mesh.specs.Mesh.{faces, start, run, faceOf};
 ghost use Rattle.mesh.specs.Edges.{up};
@@ -109,15 +109,15 @@ pub fn run_spot(s: Spot, h: f32, coords: &[f32], run: &[u32]) -> point::Point
     requires { ⌜ InReach (now coords) (now run) ⌝ }
     ensures { λ r. ⌜ r ≡ spotOf s h (now (coords .entry)) (now (run .entry)) ⌝ }
 {
-    let p = point::centroid(coords, run);
+    let p = faces::centroid(coords, run);
     match s {
         Spot::Centre => p,
         Spot::Apex => {
-            let n = point::average_normal(coords, run);
+            let n = faces::average_normal(coords, run);
             p.add(n.scale(h))
         }
         Spot::Crown => {
-            let n = point::average_normal(coords, run);
+            let n = faces::average_normal(coords, run);
             let d = p.normalized();
             d.add(n.scale(h))
         }
@@ -130,11 +130,11 @@ pub fn run_tip(s: Tip, t: f32, h: f32, coords: &[f32], run: &[u32], j: usize) ->
     requires { ⌜ InReach (now coords) (now run) ⌝ }
     ensures { λ r. ⌜ r ≡ tipOf s t h (now (coords .entry)) (now (run .entry)) j ⌝ }
 {
-    let p = point::round_at(coords, run, j);
-    let q = point::round_at(coords, run, j + 1);
+    let p = faces::round_at(coords, run, j);
+    let q = faces::round_at(coords, run, j + 1);
     match s {
         Tip::Inset => {
-            let m = point::centroid(coords, run);
+            let m = faces::centroid(coords, run);
             between(t, p, m)
         }
         Tip::Swirl => {
@@ -142,7 +142,7 @@ pub fn run_tip(s: Tip, t: f32, h: f32, coords: &[f32], run: &[u32], j: usize) ->
             between(t, between(t, p, q), m)
         }
         Tip::Third => {
-            let m = point::centroid(coords, run);
+            let m = faces::centroid(coords, run);
             let d = p.add(q);
             let e = d.add(m);
             e.div(3.0)
@@ -195,7 +195,7 @@ pub fn position_at(corners: &[u32], coords: &[f32], c: usize) -> point::Point
     ensures { λ r. ⌜ r ≡ fromP (now (corners .entry)) (now (coords .entry)) c ⌝ }
 {
     let v = slices::look(corners, c);
-    point::point_at(coords, v)
+    faces::point_at(coords, v)
 }
 
 // ---- what a section has at one place
@@ -301,7 +301,7 @@ pub fn spots_at(
 {
     match q {
         Points::Nothing => no_spots(),
-        Points::Olds(s) => one_spot(changed(s, t, point::point_at(coords, i))),
+        Points::Olds(s) => one_spot(changed(s, t, faces::point_at(coords, i))),
         Points::Faces(s) => one_spot(face_spot(s, h, offsets, corners, coords, i)),
         Points::Picks(s) => picked_spots(s, h, mask, arities, numbers, offsets, corners, coords, i),
         Points::Corners(s) => one_spot(tip_at(s, t, h, offsets, corners, coords, i)),
@@ -437,7 +437,7 @@ fn bad_olds(s: Change, t: f32, coords: &[f32]) -> usize
     let n = coords.len() / 3;
     let mut i = 0;
     while i < n {
-        let j = bad_in(changed(s, t, point::point_at(coords, i)));
+        let j = bad_in(changed(s, t, faces::point_at(coords, i)));
         if j < 3 {
             return 3 * i + j;
         }
@@ -478,12 +478,12 @@ pub fn put_spots(s: Spots, out: &mut [f32], at: usize) -> usize
         return at;
     }
     let p = s.p;
-    point::put_point(out, at, p);
+    faces::put_point(out, at, p);
     if n == 1 {
         return at + 1;
     }
     let q = s.q;
-    point::put_point(out, at + 1, q);
+    faces::put_point(out, at + 1, q);
     at + 2
 }
 
@@ -526,7 +526,7 @@ fn put_olds(s: Change, t: f32, coords: &[f32], out: &mut [f32], at: usize) -> us
     let mut v = at;
     let mut i = 0;
     while i < n {
-        point::put_point(out, v, changed(s, t, point::point_at(coords, i)));
+        faces::put_point(out, v, changed(s, t, faces::point_at(coords, i)));
         v += 1;
         i += 1;
     }
