@@ -194,7 +194,7 @@ fn check_asked(a: Asks, offsets: &[u32], corners: &[u32], coords: &[f32]) -> mes
             let mesh::Verdict::Good = edges else {
                 return edges;
             };
-            mesh::check_round(offsets, corners, coords.len() / 3)
+            fans::check_round(offsets, corners, coords.len() / 3)
         }
     }
 }

@@ -3,8 +3,8 @@ use mathlib.Core.Path.{_≡_, _∙_, ap}
 use mathlib.Core.List.{List}
 use Prim.Native.Nat.{ℕ}
 use lib.Ieee.{Float}
-use Rattle.mesh.specs.EdgeList.{Called, listAfter}
-use Rattle.mesh.specs.EdgeList as listing
+use Rattle.edges.specs.EdgeList.{Called, listAfter}
+use Rattle.edges.specs.EdgeList as listing
 use Rattle.engine.specs.Result.{Outcome, wordsOf, answerOf, offsetsAfter, cornersAfter, coordsAfter, Came}
 use Rattle.engine.specs.declared.Answer.{Answer}
 use Rattle.spelling.specs.Words.{spelled, listingWords}

@@ -7,7 +7,7 @@ ghost use mathlib.Core.Path.{_≡_};
 ghost use Prim.Native.Nat.{_/_};
 ghost use lib.ListN.{length};
 ghost use Rattle.mesh.specs.Tests.{verdict, tests, fullTests};
-ghost use Rattle.mesh.specs.EdgeList.{listing};
+ghost use Rattle.edges.specs.EdgeList.{listing};
 ghost use Rattle.operators.specs.Operators.{reverseOutcome, reflectOutcome, triangulateOutcome, amboOutcome, dualOutcome, kisOutcome, chamferOutcome, gyroOutcome, propellorOutcome, whirlOutcome, quintoOutcome};
 ghost use Rattle.steps.specs.Steps.{mesh, room};
 ghost use Rattle.panel.specs.Format.{reading, lent};
@@ -34,7 +34,7 @@ pub extern "C" fn cg_check(offsets: &[u32], corners: &[u32], coords: &[f32]) -> 
 pub extern "C" fn cg_check_full(offsets: &[u32], corners: &[u32], coords: &[f32]) -> Words
     ensures { λ r. ⌜ spelled r ≡ verdictWords (verdict (fullTests (now (offsets .entry)) (now (corners .entry)) (now (coords .entry)))) ⌝ }
 {
-    let v = mesh::check_full(offsets, corners, coords);
+    let v = fans::check_full(offsets, corners, coords);
     spelling::spell_verdict(v)
 }
 
@@ -48,7 +48,7 @@ pub extern "C" fn cg_edges(
 ) -> Words
     ensures { λ r. ⌜ Listed (listing (now (offsets .entry)) (now (corners .entry)) (now (coords .entry)) (length (now (out .entry)))) (now (out .entry)) r (now (out .exit)) ⌝ }
 {
-    let l = mesh::to_edges(offsets, corners, coords, out);
+    let l = edges::to_edges(offsets, corners, coords, out);
     spelling::spell_listing(l)
 }
 

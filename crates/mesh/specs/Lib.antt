@@ -5,11 +5,8 @@ pub mod Shape
 pub mod Corners
 pub mod Edges
 pub mod Count
-pub mod EdgeList
 pub mod Closed
 pub mod Unlike
-pub mod Ring
-pub mod Wheel
 pub mod Ranks
 pub mod Pieces
 pub mod Scan

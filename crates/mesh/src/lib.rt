@@ -1,19 +1,15 @@
-// The mesh: its check by the refusal table, its corners, and its edges.
+// The mesh: its check by the refusal table, and its corners.
 
 ghost use mathlib.Core.Path.{_≡_};
-ghost use Prim.Native.Nat.{_+_, _<_, _≤_};
+ghost use Prim.Native.Nat.{_<_, _≤_};
 ghost use lib.ListN.{length};
-ghost use lib.Seq.{sets};
 ghost use Rattle.slices.specs.First.{first, any, count, isAt};
-ghost use Rattle.slices.specs.Lists.{each};
 ghost use Rattle.mesh.specs.Mesh.{faces, pairOf, turnedOf, orderedOf, samePair, nextIn, faceAfter, window, windowIs, mate, faceOf, prevIn, turn, next, prev};
-ghost use Rattle.mesh.specs.Corners.{Paired};
 ghost use Rattle.mesh.specs.Scan.{Skipped, noneIs, Rising, Behind};
 ghost use Rattle.mesh.specs.Twice.{Inside, Unmarked, inWindow, again};
-ghost use Rattle.mesh.specs.Edges.{Faced, Sound, edge, up, rank, edges};
-ghost use Rattle.mesh.specs.EdgeList.{rise, listing, answerOf, listAfter};
+ghost use Rattle.mesh.specs.Edges.{Faced, Sound, edge, up, rank};
 ghost use Rattle.mesh.specs.Shape.{Shaped, In, Full, Limited};
-ghost use Rattle.mesh.specs.Tests.{falls, wrongOffsets, wrongShape, tooMany, short, outside, seen, repeats, met, alone, limit, verdict, tests, sizeTests, faceTests, edgeTests, facesAt, few, back, split, roundTests, fullTests};
+ghost use Rattle.mesh.specs.Tests.{falls, wrongOffsets, wrongShape, tooMany, short, outside, seen, repeats, met, alone, limit, verdict, tests, sizeTests, faceTests, edgeTests, facesAt};
 
 // What the table says: nothing is refused, or a number and its place.
 pub enum Verdict {
@@ -549,73 +545,6 @@ pub fn faces_at(corners: &[u32], v: u32) -> usize
     m
 }
 
-// Test 10: the lowest vertex in fewer than three faces.
-fn few_at(corners: &[u32], positions: usize) -> usize
-    requires { ⌜ positions ≤ limit ⌝ }
-    ensures { λ r. ⌜ r ≡ first (few (now (corners .entry))) positions ⌝ }
-{
-    let mut v = 0;
-    while v < positions {
-        if faces_at(corners, v as u32) < 3 {
-            return v;
-        }
-        v += 1;
-    }
-    v
-}
-
-// The lowest number of turns, less one, after which one is back at `start`, below `stop`.
-fn back_at(offsets: &[u32], corners: &[u32], start: usize, stop: usize) -> usize
-    requires { ⌜ Shaped (now offsets) (length (now corners)) ⌝ }
-    requires { ⌜ Full (now offsets) ⌝ }
-    requires { ⌜ Paired (now offsets) (now corners) ⌝ }
-    requires { ⌜ start < length (now corners) ⌝ }
-    ensures { λ r. ⌜ r ≡ first (back (now (offsets .entry)) (now (corners .entry)) start) stop ⌝ }
-{
-    let mut c = start;
-    let mut j = 0;
-    while j < stop {
-        c = turn_at(offsets, corners, c);
-        if c == start {
-            return j;
-        }
-        j += 1;
-    }
-    j
-}
-
-// Whether the faces round `v` form more than one fan.
-fn split_in(offsets: &[u32], corners: &[u32], v: u32) -> bool
-    requires { ⌜ Shaped (now offsets) (length (now corners)) ⌝ }
-    requires { ⌜ Full (now offsets) ⌝ }
-    requires { ⌜ Paired (now offsets) (now corners) ⌝ }
-    requires { ⌜ 3 ≤ facesAt (now corners) v ⌝ }
-    ensures { λ r. ⌜ r ≡ split (now (offsets .entry)) (now (corners .entry)) v ⌝ }
-{
-    let start = slices::find(corners, v, corners.len());
-    let m = faces_at(corners, v);
-    back_at(offsets, corners, start, m - 1) < m - 1
-}
-
-// Test 11: the lowest vertex whose faces form more than one fan.
-fn split_at(offsets: &[u32], corners: &[u32], positions: usize) -> usize
-    requires { ⌜ Shaped (now offsets) (length (now corners)) ⌝ }
-    requires { ⌜ Full (now offsets) ⌝ }
-    requires { ⌜ Paired (now offsets) (now corners) ⌝ }
-    requires { ⌜ positions ≤ limit ⌝ }
-    requires { ⌜ positions ≤ first (few (now corners)) positions ⌝ }
-    ensures { λ r. ⌜ r ≡ first (split (now (offsets .entry)) (now (corners .entry))) positions ⌝ }
-{
-    let mut v = 0;
-    while v < positions {
-        if split_in(offsets, corners, v as u32) {
-            return v;
-        }
-        v += 1;
-    }
-    v
-}
-
 // ---- the table, by groups
 
 // Numbers 1 and 2.
@@ -700,31 +629,6 @@ pub fn check_edges(offsets: &[u32], corners: &[u32]) -> Verdict
     Verdict::Good
 }
 
-// Numbers 10 and 11.
-pub fn check_round(offsets: &[u32], corners: &[u32], positions: usize) -> Verdict
-    requires { ⌜ Shaped (now offsets) (length (now corners)) ⌝ }
-    requires { ⌜ Full (now offsets) ⌝ }
-    requires { ⌜ Paired (now offsets) (now corners) ⌝ }
-    requires { ⌜ positions ≤ limit ⌝ }
-    ensures { λ r. ⌜ r ≡ verdict (roundTests (now (offsets .entry)) (now (corners .entry)) positions) ⌝ }
-{
-    let sparse = few_at(corners, positions);
-    if sparse < positions {
-        return Verdict::Bad {
-            number: 10,
-            place: sparse as u32,
-        };
-    }
-    let parted = split_at(offsets, corners, positions);
-    if parted < positions {
-        return Verdict::Bad {
-            number: 11,
-            place: parted as u32,
-        };
-    }
-    Verdict::Good
-}
-
 // The whole table: any three slices.
 pub fn check(offsets: &[u32], corners: &[u32], coords: &[f32]) -> Verdict
     ensures { λ r. ⌜ r ≡ verdict (tests (now (offsets .entry)) (now (corners .entry)) (now (coords .entry))) ⌝ }
@@ -738,17 +642,6 @@ pub fn check(offsets: &[u32], corners: &[u32], coords: &[f32]) -> Verdict
         return faces;
     };
     check_edges(offsets, corners)
-}
-
-// The whole table with numbers 10 and 11: any three slices.
-pub fn check_full(offsets: &[u32], corners: &[u32], coords: &[f32]) -> Verdict
-    ensures { λ r. ⌜ r ≡ verdict (fullTests (now (offsets .entry)) (now (corners .entry)) (now (coords .entry))) ⌝ }
-{
-    let closed = check(offsets, corners, coords);
-    let Verdict::Good = closed else {
-        return closed;
-    };
-    check_round(offsets, corners, coords.len() / 3)
 }
 
 // ---- of a mesh that passed the table
@@ -846,72 +739,4 @@ pub fn rank_of(offsets: &[u32], corners: &[u32], c: usize) -> usize
     }
     let d = mate_of(offsets, corners, c);
     ups_below(offsets, corners, d)
-}
-
-// ---- the edge list
-
-// How a call that lists the edges ends: how many there are, or a refusal.
-pub enum Listing {
-    Listed { edges: u32 },
-    Refused { number: u32, place: u32 },
-}
-
-// The window of corner `c`, which is of face `f`, stored at `m` where it ascends; the place after it.
-fn put_edge(
-    offsets: &[u32],
-    corners: &[u32],
-    f: usize,
-    c: usize,
-    out: &mut [[u32; 2]],
-    m: usize,
-) -> usize
-    requires { ⌜ Shaped (now offsets) (length (now corners)) ⌝ }
-    requires { ⌜ In (now offsets) f c ⌝ }
-    requires { ⌜ m + length (rise (now offsets) (now corners) c) ≤ length (now out) ⌝ }
-    ensures { λ r. ⌜ r ≡ m + length (rise (now (offsets .entry)) (now (corners .entry)) c) ⌝ }
-    ensures { λ _. ⌜ now (out .exit) ≡ sets (now (out .entry)) m (rise (now (offsets .entry)) (now (corners .entry)) c) ⌝ }
-{
-    if up_in(offsets, corners, f, c) {
-        out[m] = window_in(offsets, corners, f, c);
-        return m + 1;
-    }
-    m
-}
-
-// The windows that ascend, stored from the start of `out`.
-fn put_edges(offsets: &[u32], corners: &[u32], out: &mut [[u32; 2]])
-    requires { ⌜ Sound (now offsets) (now corners) ⌝ }
-    requires { ⌜ edges (now offsets) (now corners) ≤ length (now out) ⌝ }
-    ensures { λ _. ⌜ now (out .exit) ≡ sets (now (out .entry)) 0 (each (rise (now (offsets .entry)) (now (corners .entry))) (length (now (corners .entry)))) ⌝ }
-{
-    let mut m = 0;
-    let mut f = 0;
-    let mut c = 0;
-    while c < corners.len() {
-        m = put_edge(offsets, corners, f, c, out, m);
-        f = face_after(offsets, f, c);
-        c += 1;
-    }
-}
-
-// The edges of any three slices, listed into `out`: nothing is written where the call is refused.
-pub fn to_edges(offsets: &[u32], corners: &[u32], coords: &[f32], out: &mut [[u32; 2]]) -> Listing
-    ensures { λ r. ⌜ r ≡ answerOf (listing (now (offsets .entry)) (now (corners .entry)) (now (coords .entry)) (length (now (out .entry)))) ⌝ }
-    ensures { λ _. ⌜ now (out .exit) ≡ listAfter (listing (now (offsets .entry)) (now (corners .entry)) (now (coords .entry)) (length (now (out .entry)))) (now (out .entry)) ⌝ }
-{
-    let verdict = check(offsets, corners, coords);
-    if let Verdict::Bad { number, place } = verdict {
-        return Listing::Refused { number, place };
-    }
-    let n = ups_below(offsets, corners, corners.len());
-    if out.len() < n {
-        return Listing::Refused {
-            number: 13,
-            place: 0,
-        };
-    }
-    put_edges(offsets, corners, out);
-    Listing::Listed {
-        edges: slices::low(n),
-    }
 }

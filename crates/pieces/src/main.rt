@@ -1,7 +1,7 @@
 // The bench pieces about refusals: a line a case with its name, the number and the place that the check answers.
 
+use edges::Listing;
 use libc::STDOUT_FILENO;
-use mesh::Listing;
 
 // ---- T: faces [0,1,2], [0,3,1], [0,2,3], [1,3,2]
 
@@ -52,7 +52,7 @@ fn closed(name: &[u8], offsets: &[u32], corners: &[u32], coords: &[f32]) {
 
 // By the table to 11.
 fn round(name: &[u8], offsets: &[u32], corners: &[u32], coords: &[f32]) {
-    let v = mesh::check_full(offsets, corners, coords);
+    let v = fans::check_full(offsets, corners, coords);
     line(name, verdicts::number_of(v), verdicts::place_of(v));
 }
 
@@ -81,7 +81,7 @@ fn pairs(list: &[[u32; 2]]) {
 
 // A listing: 0 and how many edges there are, or the refusal; then all that is in the lent list.
 fn listed(name: &[u8], offsets: &[u32], corners: &[u32], coords: &[f32], out: &mut [[u32; 2]]) {
-    let r = mesh::to_edges(offsets, corners, coords, out);
+    let r = edges::to_edges(offsets, corners, coords, out);
     match r {
         Listing::Listed { edges } => line(name, 0, edges),
         Listing::Refused { number, place } => line(name, number, place),

@@ -10,7 +10,7 @@ use cases::line::put_name;
 use cases::line::put_number;
 use cases::line::put_pairs;
 use cases::line::put_three;
-use mesh::Listing;
+use edges::Listing;
 use mesh::Verdict;
 
 // The answer for the mesh of a case: what a check says of it.
@@ -36,7 +36,7 @@ fn of_mesh(text: &mut Text, code: u32, offsets: &[u32], corners: &[u32], coords:
     if code == 24 {
         return put_verdict(text, mesh::check(offsets, corners, coords));
     }
-    put_verdict(text, mesh::check_full(offsets, corners, coords))
+    put_verdict(text, fans::check_full(offsets, corners, coords))
 }
 
 fn put_verdict(text: &mut Text, v: Verdict) -> usize {
@@ -93,7 +93,7 @@ fn list_edges(
     pairs: &mut [[u32; 2]],
 ) -> usize {
     fill_pairs(pairs, fill);
-    let listing = mesh::to_edges(offsets, corners, coords, pairs);
+    let listing = edges::to_edges(offsets, corners, coords, pairs);
     let past = put_listing(text, listing);
     let e = put_name(text, past, b"e");
     put_pairs(text, e, pairs)

@@ -5,8 +5,8 @@ use Prim.Native.Nat.{ℕ}
 use lib.Ieee.{Float}
 use Rattle.mesh.specs.Tests.{numberOf, placeOf}
 use Rattle.mesh.specs.declared.Verdict.{Verdict}
-use Rattle.mesh.specs.declared.Listing.{Listing}
-use Rattle.mesh.specs.declared.Listing.the-variants as listing
+use Rattle.edges.specs.declared.Listing.{Listing}
+use Rattle.edges.specs.declared.Listing.the-variants as listing
 use Rattle.picks.specs.declared.Mask.{Mask}
 use Rattle.operators.specs.declared.Number.{Number}
 use Rattle.operators.specs.declared.Number.the-variants.{Absent, Given}

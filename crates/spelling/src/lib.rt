@@ -89,12 +89,12 @@ pub fn spell_verdict(v: mesh::Verdict) -> Words
 }
 
 // The words of a listing: the number of edges stands at E.
-pub fn spell_listing(l: mesh::Listing) -> Words
+pub fn spell_listing(l: edges::Listing) -> Words
     ensures { λ r. ⌜ spelled r ≡ listingWords l ⌝ }
 {
     match l {
-        mesh::Listing::Listed { edges } => counted(0, edges, 0),
-        mesh::Listing::Refused { number, place } => refusal(number, place, 0),
+        edges::Listing::Listed { edges } => counted(0, edges, 0),
+        edges::Listing::Refused { number, place } => refusal(number, place, 0),
     }
 }
 

@@ -6,11 +6,11 @@ use native.Mathlib.Omega.{arith}
 use borrow.Author.Needs.{needs}
 use Rattle.slices.specs.First.{count, count-none}
 use Rattle.slices.specs.Lists.{each}
 use Rattle.mesh.specs.Edges.{up}
-use Rattle.mesh.specs.EdgeList.{rise, rise-room, rise-more}
+use Rattle.edges.specs.EdgeList.{rise, rise-room, rise-more}
 use Rattle.mesh.specs.Shape.{At, at-first, at-then}
-use Rattle.mesh.proofs.put_edges.Statement.{statement}
-use Rattle.mesh.proofs.put_edges.Tie as tie
+use Rattle.edges.proofs.put_edges.Statement.{statement}
+use Rattle.edges.proofs.put_edges.Tie as tie
 
 abbrev Inv-loop : tie.InvT-loop
 Inv-loop offsets corners out₀ m₀ f₀ c₀ out m f c =

@@ -1,8 +1,8 @@
 use mathlib.Core.Path.{sym, _∙_}
-use Rattle.mesh.specs.EdgeList.{rise-fits, rise-yes, rise-no}
+use Rattle.edges.specs.EdgeList.{rise-fits, rise-yes, rise-no}
 use borrow.Author.Needs.{needs}
-use Rattle.mesh.proofs.put_edge.Statement.{statement}
-use Rattle.mesh.proofs.put_edge.Tie as tie
+use Rattle.edges.proofs.put_edge.Statement.{statement}
+use Rattle.edges.proofs.put_edge.Tie as tie
 
 up-in-requires : tie.Need-up-in-requires
 up-in-requires c κs = search needs

@@ -3,11 +3,11 @@ use lib.ListN.{length}
 use mathlib.Core.Path.{_∙_, sym, refl}
 use native.Mathlib.Omega.{arith}
 use native.Mathlib.Nat.{le-refl}
 use Rattle.mesh.specs.Edges.{sound-faced, tests-sound, edges-few}
-use Rattle.mesh.specs.EdgeList.{came, came-done, listing-bad, listing-tight}
+use Rattle.edges.specs.EdgeList.{came, came-done, listing-bad, listing-tight}
 use borrow.Author.Needs.{needs}
-use Rattle.mesh.proofs.to_edges.Statement.{statement}
-use Rattle.mesh.proofs.to_edges.Tie as tie
+use Rattle.edges.proofs.to_edges.Statement.{statement}
+use Rattle.edges.proofs.to_edges.Tie as tie
 
 check-requires : tie.Need-check-requires
 check-requires c κs = search needs

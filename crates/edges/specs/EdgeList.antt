@@ -14,14 +14,14 @@ use lib.Ieee.{Float}
 use borrow.Author.Tests.{lt-ltb, le-ltb}
 use Rattle.slices.specs.First.{count, nowhere, found, none}
 use Rattle.slices.specs.Lists.{each, over, each-more, length-where, sets-append, sets-over}
 use Rattle.mesh.specs.Mesh.{window}
 use Rattle.mesh.specs.Tests.{Test, met, verdict, tests, edgeTests, passed, tests-good, verdict-append, andThen, accepted, refused as refuses, stop, pass, clear}
 use Rattle.mesh.specs.Edges.{up, edges}
 use Rattle.mesh.specs.Count.{count-mono}
 use Rattle.mesh.specs.declared.Verdict.{Verdict}
 use Rattle.mesh.specs.declared.Verdict.the-variants.{Good, Bad}
-use Rattle.mesh.specs.declared.Listing.{Listing}
-use Rattle.mesh.specs.declared.Listing.the-variants.{Listed, Refused}
+use Rattle.edges.specs.declared.Listing.{Listing}
+use Rattle.edges.specs.declared.Listing.the-variants.{Listed, Refused}
 
 -- the windows that ascend, in the order of the corners (so a face's closing one comes last), each where it is first met
 unfoldable pub edgeList : List ℕ → List ℕ → List (List ℕ)

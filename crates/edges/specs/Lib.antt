@@ -1,0 +1,3 @@
+pub mod EdgeList
+pub mod Places
+pub mod Pieces
