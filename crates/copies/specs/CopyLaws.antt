@@ -9,7 +9,7 @@ use lib.ListN.{length, getD, take, drop}
 use lib.Seq.{sets, take-add, take-suc, take-length, length-take-le}
 use lib.Ieee.{Float}
 use Rattle.slices.specs.Lists.{each, over, sets-over, length-each}
-use Rattle.mesh.specs.Mesh.{faces, start, end, arity, run}
+use Rattle.mesh.specs.Mesh.{faces, start, end, arity, run, facesOf}
 use Rattle.mesh.specs.Tests.{verdict, andThen, both-good, passed, pass, clear, sizeTests, faceTests}
 use Rattle.mesh.specs.Shape.{Shaped, Limited, mono, end-le, length-run, size-good}
 use Rattle.mesh.specs.declared.Verdict.{Verdict}
@@ -21,7 +21,7 @@ use Rattle.engine.specs.Known.{refusalOf}
 use Rattle.engine.specs.declared.Answer.{Answer}
 use Rattle.engine.specs.declared.Answer.the-variants.{Done, Refused}
 use Rattle.engine.specs.declared.Asks.the-variants.{Open}
-use Rattle.copies.specs.Copy.{ownFaces, copyOutcome}
+use Rattle.copies.specs.Copy.{copyOutcome}
 
 -- ---- a mesh is its own faces
 
@@ -43,7 +43,7 @@ module _ (o k : List ℕ) (s : Shaped o (length k)) where
       ∙ sym (take-add (start o n) (arity o n) k)
       ∙ ap (λ (j : ℕ). take j k) e
 
-  pub flat-own : flat (ownFaces o k) ≡ k
+  pub flat-own : flat (facesOf o k) ≡ k
   flat-own = flat-upto (faces o) (le-refl _) ∙ ap (λ (j : ℕ). take j k) (s .last) ∙ take-length k
 
   ends-upto : (n : ℕ) → n ≤ faces o → 0 ∷ ends 0 (upto n) ≡ take (suc n) o
@@ -59,13 +59,13 @@ module _ (o k : List ℕ) (s : Shaped o (length k)) where
       ∙ ap₂ (λ (l : List ℕ) (i : ℕ). l ++ (i ∷ [])) (ends-upto n (omega arith)) e
       ∙ sym (take-suc o (suc n) 0 (omega arith))
 
-  pub offsets-own : offsetsOf (ownFaces o k) ≡ o
+  pub offsets-own : offsetsOf (facesOf o k) ≡ o
   unfolding offsetsOf
   offsets-own =
       let e : suc (faces o) ≡ length o = omega (arith, s .some) in
       ends-upto (faces o) (le-refl _) ∙ ap (λ (j : ℕ). take j o) e ∙ take-length o
 
-  pub count-own : length (ownFaces o k) ≡ faces o
+  pub count-own : length (facesOf o k) ≡ faces o
   count-own = length-each (λ f. run o k f ∷ []) 1 (faces o) (λ i. refl) ∙ omega arith
 
 -- ---- the table of a copy
@@ -94,7 +94,7 @@ module _ (o k : List ℕ) (x : List Float) (lo lc lx : ℕ) where
   R = verdict (roomTests (faces o) (length k) (length x) lo lc lx)
 
   abbrev R′ : Verdict
-  R′ = verdict (roomTests (length (ownFaces o k)) (length (flat (ownFaces o k))) (length x) lo lc lx)
+  R′ = verdict (roomTests (length (facesOf o k)) (length (flat (facesOf o k))) (length x) lo lc lx)
 
   rooms : S ≡ Good → F ≡ Good → andThen R′ (verdict (finiteTests x)) ≡ R
   rooms e f =
@@ -107,9 +107,9 @@ module _ (o k : List ℕ) (x : List Float) (lo lc lx : ℕ) where
   groups Good (Bad n p) e g = refl
   groups (Bad n p) f e g = refl
 
-  judged : verdict (table Open o k x [] (ownFaces o k) x lo lc lx) ≡ copyVerdict o k x lo lc lx
+  judged : verdict (table Open o k x [] (facesOf o k) x lo lc lx) ≡ copyVerdict o k x lo lc lx
   unfolding asked verdict
-  judged = by-groups Open o k x [] (ownFaces o k) x lo lc lx ∙ groups S F refl refl
+  judged = by-groups Open o k x [] (facesOf o k) x lo lc lx ∙ groups S F refl refl
 
   -- what a copy that is not refused leaves known
   pub record Copied : Type 0 where
@@ -130,9 +130,9 @@ module _ (o k : List ℕ) (x : List Float) (oo oc : List ℕ) (ox : List Float) 
   abbrev Q : Outcome
   Q = copyOutcome o k x (length oo) (length oc) (length ox)
 
-  outcome-is : (v : Verdict) → v ≡ J → Q ≡ outcomeOf v (ownFaces o k) x
+  outcome-is : (v : Verdict) → v ≡ J → Q ≡ outcomeOf v (facesOf o k) x
   unfolding copyOutcome outcome
-  outcome-is v e = ap (λ (v : Verdict). outcomeOf v (ownFaces o k) x) (judged o k x (length oo) (length oc) (length ox) ∙ sym e)
+  outcome-is v e = ap (λ (v : Verdict). outcomeOf v (facesOf o k) x) (judged o k x (length oo) (length oc) (length ox) ∙ sym e)
 
   pub copy-refused : (v : Verdict) {n p : ℕ} (r : Answer) → v ≡ J → v ≡ Bad n p → r ≡ refusalOf v → Came Q oo oc ox r oo oc ox
   copy-refused v {n} {p} r e b a = rw (outcome-is v e, b) (record { answer = a ∙ ap refusalOf b; offsets = refl; corners = refl; coords = refl })

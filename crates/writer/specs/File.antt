@@ -3,7 +3,6 @@ use mathlib.Core.List.{List, [], _∷_, _++_}
 use Prim.Native.Nat.{ℕ, _+_, _*_, _/_}
 use lib.ListN.{length, take}
 use lib.Ieee.{Float, toBits, binary32}
-use Rattle.slices.specs.Lists.{each}
 use Rattle.mesh.specs.Mesh as Mesh
 use Rattle.operators.specs.declared.Number.{Number}
 use Rattle.operators.specs.declared.Number.the-variants.{Absent, Given}
@@ -83,8 +82,5 @@ fileOf q = bytesAll (fileWords q)
 
 -- ---- what a call of the writer is given: the first n steps, and a mesh by offsets, corners and coordinates
 
-abbrev pub facesOf : List ℕ → List ℕ → List (List ℕ)
-facesOf o k = each (λ f. Mesh.run o k f ∷ []) (Mesh.faces o)
-
 unfoldable pub given : List Step → ℕ → List ℕ → List ℕ → List Float → Contents
-given l n o k x = record { steps = take n l; faces = facesOf o k; coords = x }
+given l n o k x = record { steps = take n l; faces = Mesh.facesOf o k; coords = x }

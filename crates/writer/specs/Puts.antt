@@ -24,7 +24,7 @@ use Rattle.operators.specs.declared.Number.{Number}
 use Rattle.words.specs.Words.{bytesOf}
 use Rattle.writer.specs.declared.Written.{Written}
 use Rattle.writer.specs.declared.Written.the-variants.{Done, Refused}
-use Rattle.writer.specs.File.{flatMap, ratioIn, heightIn, flagOf, bitsIn, stepWords, floatWords, faceWords, fileWords, bytesAll, fileOf, facesOf, given}
+use Rattle.writer.specs.File.{flatMap, ratioIn, heightIn, flagOf, bitsIn, stepWords, floatWords, faceWords, fileWords, bytesAll, fileOf, given}
 use Rattle.writer.specs.Bytes.{flatMap-append, flatMap-one, length-flatMap, length-bytes, put-after, put-one}
 use Rattle.writer.specs.Items.{length-step, length-float}
 use Rattle.writer.specs.Answer.{writtenOf, bytesAfter, Wrote}
@@ -164,7 +164,7 @@ unfolding fileOf fileWords given
 length-file l n o k x h s =
     let a : length (flatMap stepWords (take n l)) ≡ 4 * n = length-flatMap stepWords 4 (take n l) length-step ∙ ap (λ (j : ℕ). 4 * j) (length-take-le n l h) in
     let b : length (flatMap floatWords x) ≡ 1 * length x = length-flatMap floatWords 1 x length-float in
-    let f : length (flatMap faceWords (facesOf o k)) ≡ Mesh.faces o + length k = length-to o k s (Mesh.faces o) (omega arith) ∙ ap (λ (j : ℕ). Mesh.faces o + j) (s .last) in
+    let f : length (flatMap faceWords (Mesh.facesOf o k)) ≡ Mesh.faces o + length k = length-to o k s (Mesh.faces o) (omega arith) ∙ ap (λ (j : ℕ). Mesh.faces o + j) (s .last) in
     length-bytes (fileWords (given l n o k x))
     ∙ ap (λ (j : ℕ). 4 * j) (length-append (length (take n l) ∷ flatMap stepWords (take n l)) _ ∙ ap (λ (j : ℕ). suc (length (flatMap stepWords (take n l))) + j) (length-append (length x / 3 ∷ flatMap floatWords x) _))
     ∙ omega (arith, a, b, f, s .some)
@@ -174,16 +174,16 @@ pub put-file :
     wv ≡ length x / 3 → wf ≡ Mesh.faces o → b₁ ≡ sets b 0 (bytesOf wn) → b₂ ≡ sets b₁ 4 (bytesAll (flatMap stepWords (take n l))) →
     b₃ ≡ sets b₂ (4 + 16 * n) (bytesOf wv) → b₄ ≡ sets b₃ (4 + 16 * n + 4) (bytesAll (flatMap floatWords x)) →
     b₅ ≡ sets b₄ (4 + 16 * n + 4 + 4 * length x) (bytesOf wf) →
-    b₆ ≡ sets b₅ (4 + 16 * n + 4 + 4 * length x + 4) (bytesAll (flatMap faceWords (facesOf o k))) → b₆ ≡ sets b 0 (fileOf (given l n o k x))
+    b₆ ≡ sets b₅ (4 + 16 * n + 4 + 4 * length x + 4) (bytesAll (flatMap faceWords (Mesh.facesOf o k))) → b₆ ≡ sets b 0 (fileOf (given l n o k x))
 unfolding fileOf fileWords given
 put-file l n o k x b b₁ b₂ b₃ b₄ b₅ b₆ wn wv wf h en ev ef p₁ p₂ p₃ p₄ p₅ p₆ =
     let A : List ℕ = flatMap stepWords (take n l) in
     let X : List ℕ = flatMap floatWords x in
-    let F : List ℕ = flatMap faceWords (facesOf o k) in
+    let F : List ℕ = flatMap faceWords (Mesh.facesOf o k) in
     let t : length (take n l) ≡ n = length-take-le n l h in
     let a : length A ≡ 4 * n = length-flatMap stepWords 4 (take n l) length-step ∙ ap (λ (j : ℕ). 4 * j) t in
     let c : length X ≡ 1 * length x = length-flatMap floatWords 1 x length-float in
-    let m : Mesh.faces o ≡ length (facesOf o k) = let e = length-each (λ f. Mesh.run o k f ∷ []) 1 (Mesh.faces o) (λ i. refl) in omega arith in
+    let m : Mesh.faces o ≡ length (Mesh.facesOf o k) = let e = length-each (λ f. Mesh.run o k f ∷ []) 1 (Mesh.faces o) (λ i. refl) in omega arith in
     let u₁ : b₁ ≡ sets b 0 (bytesAll (wn ∷ [])) = put-one b b₁ 0 wn p₁ in
     let u₂ : b₂ ≡ sets b 0 (bytesAll (wn ∷ A)) = put-after b b₁ b₂ 0 4 (wn ∷ []) A u₁ refl p₂ in
     let u₃ : b₃ ≡ sets b 0 (bytesAll ((wn ∷ A) ++ (wv ∷ []))) = put-after b b₂ b₃ 0 (4 + 16 * n) (wn ∷ A) (wv ∷ []) u₂ (omega (arith, a)) (put-one b₂ b₃ (4 + 16 * n) wv p₃) in

@@ -8,9 +8,9 @@ ghost use Prim.Native.Nat.{_+_, _*_, _<_, _≤_};
 ghost use mathlib.Core.List.{[], _∷_};
 ghost use lib.ListN.{length, take};
 ghost use lib.Seq.{sets};
-ghost use Rattle.mesh.specs.Mesh.{faces};
+ghost use Rattle.mesh.specs.Mesh.{faces, facesOf};
 ghost use Rattle.mesh.specs.Shape.{Shaped};
-ghost use Rattle.writer.specs.File.{flatMap, ratioIn, heightIn, flagOf, bitsIn, stepWords, floatWords, faceWords, bytesAll, facesOf, fileOf, given};
+ghost use Rattle.writer.specs.File.{flatMap, ratioIn, heightIn, flagOf, bitsIn, stepWords, floatWords, faceWords, bytesAll, fileOf, given};
 ghost use Rattle.writer.specs.Answer.{Wrote};
 ghost use Rattle.writer.specs.Puts.{limitsOf, shapeFirst, Filing};
 
