@@ -163,16 +163,19 @@ impl Case {
         }
     }
 
-    pub fn words(&self) -> Vec<u32> {
+    /// The code, the flags and the numbers.
+    pub fn first_words(&self) -> [u32; 4] {
         let bits = |number: Option<f32>| number.map_or(0, f32::to_bits);
+        let Parameters { ratio, height, .. } = self.parameters;
+        [self.function.code(), self.flags(), bits(ratio), bits(height)]
+    }
+
+    pub fn words(&self) -> Vec<u32> {
         let list = |list: &Option<Vec<u32>>| list.clone().unwrap_or_default();
         let parameters = &self.parameters;
         let (arities, faces) = (list(&parameters.arities), list(&parameters.faces));
-        let mut words = vec![
-            self.function.code(),
-            self.flags(),
-            bits(parameters.ratio),
-            bits(parameters.height),
+        let mut words = self.first_words().to_vec();
+        words.extend([
             self.mesh.offsets.len() as u32,
             self.mesh.corners.len() as u32,
             self.mesh.coordinates.len() as u32,
@@ -183,7 +186,7 @@ impl Case {
             self.room.coordinates as u32,
             self.fill,
             0,
-        ];
+        ]);
         let more = self.function.program() == Program::Rerun;
         if more {
             words.extend(self.extra.header());
@@ -280,12 +283,17 @@ pub fn to_bytes(words: &[u32]) -> Vec<u8> {
     words.iter().flat_map(|word| word.to_le_bytes()).collect()
 }
 
-/// The cases of a stream, and whether it ends in a bad one.
-pub fn read_stream(bytes: &[u8]) -> (Vec<Case>, bool) {
+/// The whole words of a stream, and whether it is cut inside one.
+pub fn to_words(bytes: &[u8]) -> (Vec<u32>, bool) {
     let chunks = bytes.chunks_exact(4);
     let cut_inside_a_word = !chunks.remainder().is_empty();
-    let words: Vec<u32> =
-        chunks.map(|chunk| u32::from_le_bytes(chunk.try_into().expect("four bytes"))).collect();
+    let word = |chunk: &[u8]| u32::from_le_bytes(chunk.try_into().expect("four bytes"));
+    (chunks.map(word).collect(), cut_inside_a_word)
+}
+
+/// The cases of a stream, and whether it ends in a bad one.
+pub fn read_stream(bytes: &[u8]) -> (Vec<Case>, bool) {
+    let (words, cut_inside_a_word) = to_words(bytes);
     let mut rest = words.as_slice();
     let mut cases = Vec::new();
     loop {

@@ -41,24 +41,23 @@ pub fn at_no_step(refusal: Refusal) -> RefusedAt {
 
 /// A call that makes a mesh.
 pub fn mesh_outcome(result: Result<Mesh, RefusedAt>, case: &Case) -> Outcome {
-    let counts = result.as_ref().map_or(Vec::new(), |mesh| mesh.counts().to_vec());
-    let refusal = result.as_ref().err().map(|refused| (refused.refusal, refused.step));
-    Outcome { refusal, counts, slices: lent_mesh(&result.unwrap_or_default(), case) }
+    let answer = result.as_ref().map(|mesh| mesh.counts().to_vec());
+    let answer = answer.map_err(|refused| (refused.refusal, refused.step));
+    Outcome::new(answer, lent_mesh(&result.unwrap_or_default(), case))
 }
 
 /// The lent output after a call that wrote the mesh.
-pub fn lent_mesh(written: &Mesh, case: &Case) -> Vec<(&'static str, Vec<u32>)> {
+pub fn lent_mesh(written: &Mesh, case: &Case) -> Vec<Vec<u32>> {
     let (room, fill) = (case.room, case.fill);
     vec![
-        ("offset", lent(&written.offsets, room.offsets, fill)),
-        ("corner", lent(&written.corners, room.corners, fill)),
-        ("coordinate", lent(&bits(&written.coordinates), room.coordinates, fill)),
+        lent(&written.offsets, room.offsets, fill),
+        lent(&written.corners, room.corners, fill),
+        lent(&bits(&written.coordinates), room.coordinates, fill),
     ]
 }
 
 fn check_outcome(checked: Result<(), Refusal>) -> Outcome {
-    let refusal = checked.err().map(|refusal| (refusal, 0));
-    Outcome { refusal, counts: Vec::new(), slices: Vec::new() }
+    Outcome::new(checked.map(|()| Vec::new()).map_err(|refusal| (refusal, 0)), Vec::new())
 }
 
 /// The room of offsets is the room for pairs.
@@ -72,9 +71,7 @@ fn edges_outcome(case: &Case) -> Outcome {
             Err(Refusal { number: 13, place: 0 })
         }
     });
-    let refusal = listed.as_ref().err().map(|refusal| (*refusal, 0));
-    let counts = listed.as_ref().map_or(Vec::new(), |edges| vec![edges.len()]);
+    let answer = listed.as_ref().map(|edges| vec![edges.len()]).map_err(|refusal| (*refusal, 0));
     let edges = listed.unwrap_or_default();
-    let slices = vec![("edge word", lent(&edges.concat(), 2 * pairs, case.fill))];
-    Outcome { refusal, counts, slices }
+    Outcome::new(answer, vec![lent(&edges.concat(), 2 * pairs, case.fill)])
 }

@@ -1,11 +1,11 @@
 //! What a list, a recipe and the functions on panel files must come to.
 use crate::answer::lent;
-use crate::case::{Case, Room};
+use crate::case::Case;
 use crate::expected::{at_no_step, lent_mesh, mesh_outcome};
 use crate::extra::step_words;
 use crate::mesh::Mesh;
 use crate::operator::{Operator, Parameters};
-use crate::outcome::{filled_bytes, numbers, Outcome};
+use crate::outcome::{filled_bytes, numbers, Answer, Outcome};
 use crate::panel::{self, Panel};
 use crate::recipe::{self, Lent, List, Ran, Step, MOST_STEPS};
 use crate::rust_side;
@@ -29,18 +29,14 @@ pub fn recipe(case: &Case) -> Outcome {
         None => recipe::run_recipe(&steps_of(&words), &case.mesh, lent_of(case), ledger),
     };
     let mut outcome = with_work(mesh_outcome(ran.outcome, case), case);
-    outcome
-        .slices
-        .push(("ledger number", lent(&ran.rows.concat(), ledger_numbers(case), case.fill)));
+    outcome.slices.push(lent(&ran.rows.concat(), ledger_numbers(case), case.fill));
     outcome
 }
 
 /// Both work meshes read zero, whatever came.
 fn with_work(mut outcome: Outcome, case: &Case) -> Outcome {
-    for Room { offsets, corners, coordinates } in case.extra.work {
-        outcome.slices.push(("work offset", vec![0; offsets]));
-        outcome.slices.push(("work corner", vec![0; corners]));
-        outcome.slices.push(("work coordinate", vec![0; coordinates]));
+    for length in case.extra.work.iter().flat_map(|room| room.lengths()) {
+        outcome.slices.push(vec![0; length]);
     }
     outcome
 }
@@ -72,15 +68,13 @@ fn steps_of(words: &[[u32; 4]]) -> Vec<Step> {
     words.iter().map(|step| panel::step_of(*step).unwrap_or_else(none)).collect()
 }
 
-fn file_counts(read: &Result<Panel, Refusal>) -> Vec<usize> {
-    read.as_ref().map_or(Vec::new(), |panel| {
-        let Sizes { faces, corners, positions } = Sizes::of(&panel.mesh);
-        vec![panel.steps.len(), positions, faces, corners]
-    })
+fn held(panel: &Panel) -> Vec<usize> {
+    let Sizes { faces, corners, positions } = Sizes::of(&panel.mesh);
+    vec![panel.steps.len(), positions, faces, corners]
 }
 
-fn refused<T>(result: &Result<T, Refusal>) -> Option<(Refusal, usize)> {
-    result.as_ref().err().map(|refusal| (*refusal, 0))
+fn counted<T>(result: &Result<T, Refusal>, counts: impl Fn(&T) -> Vec<usize>) -> Answer {
+    result.as_ref().map(counts).map_err(|refusal| (*refusal, 0))
 }
 
 pub fn file(case: &Case) -> Outcome {
@@ -88,9 +82,9 @@ pub fn file(case: &Case) -> Outcome {
         table::check_room(Sizes::of(&panel.mesh), case.room)?;
         Ok(panel)
     });
-    let (refusal, counts) = (refused(&read), file_counts(&read));
+    let answer = counted(&read, held);
     let mesh = with_one_nan(&read.unwrap_or_default().mesh);
-    Outcome { refusal, counts, slices: lent_mesh(&mesh, case) }
+    Outcome::new(answer, lent_mesh(&mesh, case))
 }
 
 /// The library has one NaN, whichever stood in a file or is to be written into one (docs/PANEL-FILE.md).
@@ -113,9 +107,9 @@ pub fn file_steps(case: &Case) -> Outcome {
         true => Err(Refusal { number: 13, place: 3 }),
         false => Ok(panel),
     });
-    let (refusal, counts) = (refused(&read), file_counts(&read));
+    let answer = counted(&read, held);
     let words: Vec<u32> = read.unwrap_or_default().steps.iter().flat_map(step_words).collect();
-    Outcome { refusal, counts, slices: vec![("step word", lent(&words, 4 * room, case.fill))] }
+    Outcome::new(answer, vec![lent(&words, 4 * room, case.fill)])
 }
 
 pub fn file_write(case: &Case) -> Outcome {
@@ -124,12 +118,11 @@ pub fn file_write(case: &Case) -> Outcome {
         Some(refusal) => Err(refusal),
         None => write_into(&steps_of(&words), &case.mesh, room),
     };
-    let refusal = refused(&written);
-    let counts = written.as_ref().map_or(Vec::new(), |file| vec![file.len()]);
+    let answer = counted(&written, |file| vec![file.len()]);
     let mut bytes = filled_bytes(room, case.fill);
     let file = written.unwrap_or_default();
     bytes[..file.len()].copy_from_slice(&file);
-    Outcome { refusal, counts, slices: vec![("byte", numbers(&bytes))] }
+    Outcome::new(answer, vec![numbers(&bytes)])
 }
 
 /// The file where it may be written into so many bytes: numbers 1, 2 with the limits of a file, and 13.

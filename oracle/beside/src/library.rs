@@ -1,36 +1,46 @@
-//! The same call of the proved library, through its Rust crate, on slices lent with a fill.
-use crate::case::{Case, Function, Room};
+//! The same calls of the proved library in this process, through its Rust crate.
+use crate::case::{Case, Function};
+use crate::lent;
 use crate::library_runs as runs;
 use crate::made::{Call, Entry};
 use crate::mesh::Mesh;
 use crate::operator::Operator;
-use crate::outcome::{bits, filled, Outcome};
+use crate::outcome::{bits, Outcome};
 use crate::table::Refusal;
 use crossglimmer::{slices, Counts, Lent, Masks, Read};
 
-pub fn outcome(call: &Call) -> Outcome {
-    let case = &call.case;
-    match call.entry {
-        Entry::Named => named(case),
-        Entry::FileSteps => runs::file_steps(case),
-        Entry::FileWrite => runs::file_write(case),
-    }
+/// What a call that is done counts.
+pub type Counted = Result<Vec<usize>, crossglimmer::Refusal>;
+
+pub fn outcomes(calls: &[Call]) -> Result<Vec<Outcome>, String> {
+    Ok(calls.iter().map(outcome).collect())
 }
 
-fn named(case: &Case) -> Outcome {
+fn outcome(call: &Call) -> Outcome {
+    let (case, mut lent) = (&call.case, lent::slices(call));
+    let answer = match call.entry {
+        Entry::Named => named(case, &mut lent),
+        Entry::FileSteps => runs::file_steps(case, &mut lent[0]),
+        Entry::FileWrite => runs::file_write(case, &mut lent[0]),
+    };
+    Outcome::new(answer.map_err(refused), lent)
+}
+
+fn named(case: &Case, lent: &mut [Vec<u32>]) -> Counted {
     let mesh = read(&case.mesh);
     match case.function {
         Function::Operator(operator) => {
-            let mut out = Slices::new(case.room, case.fill);
-            let answer = operate(operator, case, mesh, out.lent());
-            made(answer, out.named("offset", "corner", "coordinate"))
+            lend(lent, |out| operate(operator, case, mesh, out)).map(counted)
         }
-        Function::CheckClosed => check_outcome(slices::check(mesh)),
-        Function::CheckFans => check_outcome(slices::check_full(mesh)),
-        Function::Edges => edges_outcome(case),
-        Function::List(list) => runs::list(list, case),
-        Function::Recipe => runs::recipe(case),
-        Function::File => runs::file(case),
+        Function::CheckClosed => slices::check(mesh).map(|()| Vec::new()),
+        Function::CheckFans => slices::check_full(mesh).map(|()| Vec::new()),
+        Function::Edges => {
+            let listed = in_groups(&mut lent[0], |pairs| slices::edges(mesh, pairs));
+            listed.map(|edges| vec![edges])
+        }
+        Function::List(list) => runs::list(list, case, lent),
+        Function::Recipe => runs::recipe(case, lent),
+        Function::File => runs::file(case, lent),
         other => unreachable!("{} is not made", other.name()),
     }
 }
@@ -68,63 +78,35 @@ fn operate(
     }
 }
 
-/// The three slices of a mesh that is lent.
-pub struct Slices {
-    offsets: Vec<u32>,
-    corners: Vec<u32>,
-    coords: Vec<f32>,
+/// Lends the first three slices as those of a mesh.
+pub fn lend<R>(slices: &mut [Vec<u32>], call: impl FnOnce(Lent) -> R) -> R {
+    let (indices, floats) = slices.split_at_mut(2);
+    let (offsets, corners) = indices.split_at_mut(1);
+    let mut coords: Vec<f32> = floats[0].iter().map(|bits| f32::from_bits(*bits)).collect();
+    let answer =
+        call(Lent { offsets: &mut offsets[0], corners: &mut corners[0], coords: &mut coords });
+    floats[0] = bits(&coords);
+    answer
 }
 
-impl Slices {
-    pub fn new(room: Room, fill: u32) -> Slices {
-        let Room { offsets, corners, coordinates } = room;
-        Slices {
-            offsets: filled(offsets, fill),
-            corners: filled(corners, fill),
-            coords: filled(coordinates, fill).into_iter().map(f32::from_bits).collect(),
-        }
-    }
-
-    pub fn lent(&mut self) -> Lent<'_> {
-        let Slices { offsets, corners, coords } = self;
-        Lent { offsets, corners, coords }
-    }
-
-    pub fn named(
-        self,
-        offset: &'static str,
-        corner: &'static str,
-        coordinate: &'static str,
-    ) -> Vec<(&'static str, Vec<u32>)> {
-        vec![(offset, self.offsets), (corner, self.corners), (coordinate, bits(&self.coords))]
-    }
+/// Lends a slice as groups of N numbers.
+pub fn in_groups<R, const N: usize>(
+    slice: &mut Vec<u32>,
+    call: impl FnOnce(&mut [[u32; N]]) -> R,
+) -> R {
+    let group = |numbers: &[u32]| std::array::from_fn(|at| numbers[at]);
+    let mut groups: Vec<[u32; N]> = slice.chunks(N).map(group).collect();
+    let answer = call(&mut groups);
+    *slice = groups.concat();
+    answer
 }
 
-pub fn refused(refusal: crossglimmer::Refusal) -> (Refusal, usize) {
+pub fn counted(counts: Counts) -> Vec<usize> {
+    let Counts { positions, edges, faces } = counts;
+    [positions, edges, faces].map(|count| count as usize).to_vec()
+}
+
+fn refused(refusal: crossglimmer::Refusal) -> (Refusal, usize) {
     let crossglimmer::Refusal { number, place, step } = refusal;
     (Refusal { number, place }, step as usize)
-}
-
-/// A call that makes a mesh.
-pub fn made(
-    answer: Result<Counts, crossglimmer::Refusal>,
-    slices: Vec<(&'static str, Vec<u32>)>,
-) -> Outcome {
-    let counts = answer.map_or(Vec::new(), |Counts { positions, edges, faces }| {
-        [positions, edges, faces].map(|count| count as usize).to_vec()
-    });
-    Outcome { refusal: answer.err().map(refused), counts, slices }
-}
-
-fn check_outcome(checked: Result<(), crossglimmer::Refusal>) -> Outcome {
-    Outcome { refusal: checked.err().map(refused), counts: Vec::new(), slices: Vec::new() }
-}
-
-fn edges_outcome(case: &Case) -> Outcome {
-    let words = filled(2 * case.room.offsets, case.fill);
-    let mut pairs: Vec<[u32; 2]> = words.chunks(2).map(|pair| [pair[0], pair[1]]).collect();
-    let listed = slices::edges(read(&case.mesh), &mut pairs);
-    let counts = listed.map_or(Vec::new(), |edges| vec![edges]);
-    let slices = vec![("edge word", pairs.concat())];
-    Outcome { refusal: listed.err().map(refused), counts, slices }
 }

@@ -1,31 +1,29 @@
-//! Lists, recipes and panel files of the proved library, on slices lent with a fill.
+//! Lists, recipes and panel files of the proved library, on the slices lent to them.
 use crate::case::Case;
-use crate::expected_runs::{ledger_numbers, words};
-use crate::library::{made, read, refused, Slices};
-use crate::outcome::{filled, filled_bytes, numbers, Outcome};
+use crate::expected_runs::words;
+use crate::library::{counted, in_groups, lend, read, Counted};
+use crate::outcome::numbers;
 use crate::recipe::List;
 use crossglimmer::{slices, Counts, Filed, Lent, ListMasks, Work};
 
-/// Lends two work meshes and an output of the case's room.
+/// Lends the slices as an output and two work meshes.
 fn carried(
-    case: &Case,
+    lent: &mut [Vec<u32>],
     call: impl FnOnce(Work, Lent) -> Result<Counts, crossglimmer::Refusal>,
-) -> Outcome {
-    let [mut first, mut second] = case.extra.work.map(|room| Slices::new(room, case.fill));
-    let mut out = Slices::new(case.room, case.fill);
-    let answer = call(Work { first: first.lent(), second: second.lent() }, out.lent());
-    let mut slices = out.named("offset", "corner", "coordinate");
-    for work in [first, second] {
-        slices.extend(work.named("work offset", "work corner", "work coordinate"));
-    }
-    made(answer, slices)
+) -> Counted {
+    let (out, work) = lent.split_at_mut(3);
+    let (first, second) = work.split_at_mut(3);
+    let answer = lend(out, |out| {
+        lend(first, |first| lend(second, |second| call(Work { first, second }, out)))
+    });
+    answer.map(counted)
 }
 
-pub fn list(list: List, case: &Case) -> Outcome {
+pub fn list(list: List, case: &Case, lent: &mut [Vec<u32>]) -> Counted {
     let parameters = &case.parameters;
     let masks = ListMasks { arities: parameters.arities.as_deref(), regular: parameters.regular };
     let (list, ratio, height) = (named(list), parameters.ratio, parameters.height);
-    carried(case, |work, out| slices::list(list, read(&case.mesh), ratio, height, masks, work, out))
+    carried(lent, |work, out| slices::list(list, read(&case.mesh), ratio, height, masks, work, out))
 }
 
 fn named(list: List) -> crossglimmer::List {
@@ -43,42 +41,28 @@ fn named(list: List) -> crossglimmer::List {
     }
 }
 
-pub fn recipe(case: &Case) -> Outcome {
-    let steps = words(case);
-    let mut ledger = filled(ledger_numbers(case), case.fill);
-    let mut outcome =
-        carried(case, |work, out| slices::recipe(&steps, &mut ledger, read(&case.mesh), work, out));
-    outcome.slices.push(("ledger number", ledger));
-    outcome
+pub fn recipe(case: &Case, lent: &mut [Vec<u32>]) -> Counted {
+    let (meshes, ledger) = lent.split_at_mut(9);
+    let (steps, mesh) = (words(case), read(&case.mesh));
+    carried(meshes, |work, out| slices::recipe(&steps, &mut ledger[0], mesh, work, out))
 }
 
-fn filed(
-    answer: Result<Filed, crossglimmer::Refusal>,
-    slices: Vec<(&'static str, Vec<u32>)>,
-) -> Outcome {
-    let counts = answer.map_or(Vec::new(), |Filed { steps, positions, faces, corners }| {
-        [steps, positions, faces, corners].map(|count| count as usize).to_vec()
-    });
-    Outcome { refusal: answer.err().map(refused), counts, slices }
+fn held(filed: Filed) -> Vec<usize> {
+    let Filed { steps, positions, faces, corners } = filed;
+    [steps, positions, faces, corners].map(|count| count as usize).to_vec()
 }
 
-pub fn file(case: &Case) -> Outcome {
-    let mut out = Slices::new(case.room, case.fill);
-    let answer = slices::panel_read(&case.extra.file, out.lent());
-    filed(answer, out.named("offset", "corner", "coordinate"))
+pub fn file(case: &Case, lent: &mut [Vec<u32>]) -> Counted {
+    lend(lent, |out| slices::panel_read(&case.extra.file, out)).map(held)
 }
 
-pub fn file_steps(case: &Case) -> Outcome {
-    let words = filled(4 * case.extra.ledger, case.fill);
-    let mut steps: Vec<[u32; 4]> =
-        words.chunks(4).map(|step| [step[0], step[1], step[2], step[3]]).collect();
-    let answer = slices::panel_steps(&case.extra.file, &mut steps);
-    filed(answer, vec![("step word", steps.concat())])
+pub fn file_steps(case: &Case, lent: &mut Vec<u32>) -> Counted {
+    in_groups(lent, |steps| slices::panel_steps(&case.extra.file, steps)).map(held)
 }
 
-pub fn file_write(case: &Case) -> Outcome {
-    let mut bytes = filled_bytes(case.room.offsets, case.fill);
-    let answer = slices::panel_write(&words(case), read(&case.mesh), &mut bytes);
-    let counts = answer.map_or(Vec::new(), |length| vec![length]);
-    Outcome { refusal: answer.err().map(refused), counts, slices: vec![("byte", numbers(&bytes))] }
+pub fn file_write(case: &Case, lent: &mut Vec<u32>) -> Counted {
+    let mut bytes: Vec<u8> = lent.iter().map(|number| *number as u8).collect();
+    let written = slices::panel_write(&words(case), read(&case.mesh), &mut bytes);
+    *lent = numbers(&bytes);
+    written.map(|length| vec![length])
 }

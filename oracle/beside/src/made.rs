@@ -36,9 +36,11 @@ pub struct Call {
     pub case: Case,
 }
 
+type Maker = Box<dyn Fn(bool, &mut Random) -> Case>;
+
 /// The functions in turn; half of the calls are likely done.
 pub fn call(random: &mut Random, index: u64) -> Call {
-    let mut makers: Vec<Box<dyn Fn(bool, &mut Random) -> Case>> = vec![
+    let mut makers: Vec<Maker> = vec![
         Box::new(|good, random| Case::new(Function::CheckClosed, checked(good, random))),
         Box::new(|good, random| Case::new(Function::CheckFans, checked(good, random))),
         Box::new(edges),

@@ -1,5 +1,5 @@
-//! Compares the proved library, linked statically, with the Rust text on calls that are done and
-//! with the second reading of document 01 on those that are refused.
+//! Compares the proved library with the Rust text on calls that are done and with the second
+//! reading of document 01 on those that are refused.
 #![allow(dead_code)]
 
 // The oracle's own modules, as they are.
@@ -46,13 +46,23 @@ mod table;
 #[path = "../../src/tally.rs"]
 mod tally;
 
+mod by_files;
 mod expected;
 mod expected_runs;
+mod lent;
+#[cfg(feature = "linked")]
 mod library;
+#[cfg(feature = "linked")]
 mod library_runs;
 mod made;
 mod outcome;
 mod shrink;
+
+// The library in this process or, where it cannot be linked, through files.
+#[cfg(not(feature = "linked"))]
+use by_files::outcomes;
+#[cfg(feature = "linked")]
+use library::outcomes;
 
 use made::{Call, Entry};
 use outcome::Outcome;
@@ -61,8 +71,12 @@ use std::collections::BTreeMap;
 use std::time::Instant;
 use tally::Tally;
 
-const USAGE: &str = "usage: oracle/compare [--calls N] [--seed S] [--call I]
-  N calls (100,000) made from the seed S (1); with I only call I of them, shown";
+const USAGE: &str = "usage: oracle/compare [--files] [--calls N] [--seed S] [--call I]
+  N calls (100,000) made from the seed S (1); with I only call I of them, shown;
+  with --files the library plays files of calls, as it does where it cannot be linked";
+
+/// So many calls are handed to the library at a time.
+const BATCH: usize = 5_000;
 
 struct Options {
     calls: u64,
@@ -94,14 +108,16 @@ fn call(seed: u64, index: u64) -> Call {
 }
 
 /// Where the two sides differ, as text.
-fn difference(call: &Call) -> Option<String> {
-    outcome::difference(&expected::outcome(call), &library::outcome(call))
+fn difference(call: &Call) -> Result<Option<String>, String> {
+    let given = outcomes(std::slice::from_ref(call))?;
+    Ok(outcome::difference(call, &expected::outcome(call), &given[0]))
 }
 
 fn report(call: &Call, index: u64, seed: u64) -> String {
     let with = |case: &case::Case| Call { case: case.clone(), ..*call };
-    let small = with(&shrink::smallest(&call.case, |case| difference(&with(case)).is_some()));
-    let what = difference(&small).unwrap_or_default();
+    let differs = |case: &case::Case| matches!(difference(&with(case)), Ok(Some(_)));
+    let small = with(&shrink::smallest(&call.case, differs));
+    let what = difference(&small).map_or_else(|error| error, Option::unwrap_or_default);
     format!(
         "call {index} of seed {seed} differs; the smallest case found:\n{}{what}",
         shown(&small)
@@ -134,16 +150,20 @@ impl Compared {
         self.tallies.entry(call.entry).or_default().count(&call.case, outcome.counted());
     }
 
-    /// Compares one call; an error tells of a difference.
-    fn compare(&mut self, call: &Call, index: u64, seed: u64) -> Result<(), String> {
-        let expected = expected::outcome(call);
+    /// Compares the calls from `first` on; an error tells of a difference.
+    fn compare(&mut self, calls: &[Call], first: u64, seed: u64) -> Result<(), String> {
         let before = Instant::now();
-        let given = library::outcome(call);
+        let given = outcomes(calls).map_err(|error| {
+            format!("{} calls of seed {seed} from {first} on: {error}", calls.len())
+        })?;
         self.library_seconds += before.elapsed().as_secs_f64();
-        if outcome::difference(&expected, &given).is_some() {
-            return Err(report(call, index, seed));
+        for ((call, given), index) in calls.iter().zip(&given).zip(first..) {
+            let expected = expected::outcome(call);
+            if outcome::difference(call, &expected, given).is_some() {
+                return Err(report(call, index, seed));
+            }
+            self.count(call, &expected);
         }
-        self.count(call, &expected);
         Ok(())
     }
 }
@@ -153,12 +173,14 @@ fn run() -> Result<(), String> {
     if let Some(index) = only {
         let call = call(seed, index);
         print!("{}", shown(&call));
-        return difference(&call).map_or(Ok(()), |_| Err(report(&call, index, seed)));
+        return difference(&call)?.map_or(Ok(()), |_| Err(report(&call, index, seed)));
     }
     let started = Instant::now();
     let mut compared = Compared::default();
-    for index in 0..calls {
-        compared.compare(&call(seed, index), index, seed)?;
+    for first in (0..calls).step_by(BATCH) {
+        let end = calls.min(first + BATCH as u64);
+        let batch: Vec<Call> = (first..end).map(|index| call(seed, index)).collect();
+        compared.compare(&batch, first, seed)?;
     }
     let seconds = started.elapsed().as_secs_f64();
     for (entry, tally) in &compared.tallies {

@@ -1,17 +1,27 @@
 //! What a call comes to: its answer and every element of the lent slices, as numbers.
 use crate::answer;
+use crate::lent;
+use crate::made::Call;
 use crate::table::Refusal;
 
-/// The refusal with its step, or the counts; then the lent slices after the call, floats as bits.
+/// What a call that is done counts: V, E, F of a mesh; or the refusal with its step.
+pub type Answer = Result<Vec<usize>, (Refusal, usize)>;
+
+/// The answer taken apart; then the lent slices after the call, floats as bits.
 #[derive(Clone, Debug, PartialEq)]
 pub struct Outcome {
     pub refusal: Option<(Refusal, usize)>,
-    /// What a call that is done counts: V, E, F of a mesh; none of a refused call.
+    /// None of a refused call.
     pub counts: Vec<usize>,
-    pub slices: Vec<(&'static str, Vec<u32>)>,
+    pub slices: Vec<Vec<u32>>,
 }
 
 impl Outcome {
+    pub fn new(answer: Answer, slices: Vec<Vec<u32>>) -> Outcome {
+        let refusal = answer.as_ref().err().copied();
+        Outcome { refusal, counts: answer.unwrap_or_default(), slices }
+    }
+
     /// As the tally counts it.
     pub fn counted(&self) -> answer::Outcome {
         self.refusal.map_or(answer::Outcome::Done, |refused| answer::Outcome::Refused(refused.0))
@@ -19,14 +29,18 @@ impl Outcome {
 }
 
 fn answer_text(outcome: &Outcome) -> String {
+    let counts = format!(", counts {:?}", outcome.counts);
     match outcome.refusal {
-        Some((Refusal { number, place }, step)) => format!("{number} at {place}, step {step}"),
-        None => format!("done, counts {:?}", outcome.counts),
+        Some((Refusal { number, place }, step)) => {
+            let counts = if outcome.counts.is_empty() { "" } else { &counts };
+            format!("{number} at {place}, step {step}{counts}")
+        }
+        None => format!("done{counts}"),
     }
 }
 
 /// The first thing in which they differ.
-pub fn difference(expected: &Outcome, given: &Outcome) -> Option<String> {
+pub fn difference(call: &Call, expected: &Outcome, given: &Outcome) -> Option<String> {
     if expected == given {
         return None;
     }
@@ -34,7 +48,8 @@ pub fn difference(expected: &Outcome, given: &Outcome) -> Option<String> {
     if ours != theirs {
         return Some(format!("  answer: expected {ours}; the library says {theirs}"));
     }
-    for ((name, ours), (_, theirs)) in expected.slices.iter().zip(&given.slices) {
+    let slices = expected.slices.iter().zip(&given.slices);
+    for ((name, _), (ours, theirs)) in lent::lengths(call).iter().zip(slices) {
         if let Some(at) =
             (0..ours.len().max(theirs.len())).find(|at| ours.get(*at) != theirs.get(*at))
         {
