@@ -3,6 +3,7 @@ use crate::answer;
 use crate::arithmetic;
 use crate::calls;
 use crate::case::{Case, Function};
+use crate::commands::Done;
 use crate::mesh::Mesh;
 use crate::meshes::{self, AMPLE};
 use crate::numbers;
@@ -27,7 +28,7 @@ const AGREEMENTS: [(&str, Agreement); 6] = [
 ];
 
 /// Makes so many comparisons of each kind.
-pub fn all(times: usize) -> Result<(), String> {
+pub fn all(times: usize) -> Done {
     for (name, agree) in AGREEMENTS {
         let mut random = Random::new(4);
         let mut compared = 0;

@@ -75,7 +75,7 @@ pub fn compare(chains: usize) -> Done {
     let numbers = [0].iter().chain(&ALLOWED).map(|number| met(*number)).collect::<Vec<_>>();
     println!("{chains} chains, {} steps; numbers {}", comparison.compared, numbers.join(", "));
     println!("{}\n{compared}", builds.text());
-    demand(&comparison, ALLOWED, 1)
+    demand(&comparison.tally, ALLOWED, 1)
 }
 
 fn start(chain: usize, random: &mut Random) -> Mesh {

@@ -1,8 +1,9 @@
-//! What each command of the oracle does; a difference or a shortfall is an error.
+//! What each command of the oracle does; a difference is an error, and so is a number that was not met.
 use crate::answer::{answer, Outcome};
 use crate::calls;
 use crate::case::{read_stream, to_bytes, Case, Function, Program, COUNTS};
 use crate::damage;
+use crate::failure::Failure;
 use crate::list;
 use crate::mesh::Mesh;
 use crate::numbers;
@@ -16,7 +17,7 @@ use crate::tally::Tally;
 use std::io::{Read, Write};
 use std::path::Path;
 
-pub type Done = Result<(), String>;
+pub type Done = Result<(), Failure>;
 
 /// Writes the fixed lists, of all codes or of those named.
 pub fn write_lists(codes: &[String]) -> Done {
@@ -24,7 +25,7 @@ pub fn write_lists(codes: &[String]) -> Done {
         codes.iter().map(|code| code.parse().map_err(|_| format!("not a code: {code}"))).collect();
     let named = named?;
     if let Some(code) = named.iter().find(|code| Function::from_code(**code).is_none()) {
-        return Err(format!("no function has code {code}"));
+        return Err(format!("no function has code {code}").into());
     }
     for program in Program::BOTH {
         let wanted = |code: &u32| named.is_empty() || named.contains(code);
@@ -46,10 +47,11 @@ fn write_list(program: Program, codes: &[u32]) -> Done {
         lines += "\n";
     }
     let folder = Path::new(&variable("LISTS")?).join(program.name());
-    std::fs::create_dir_all(&folder).map_err(text)?;
+    std::fs::create_dir_all(&folder)?;
     println!("{tally}{} bytes in, {} bytes out", bytes.len(), lines.len());
-    std::fs::write(folder.join("stdin"), bytes).map_err(text)?;
-    std::fs::write(folder.join("stdout"), lines).map_err(text)
+    std::fs::write(folder.join("stdin"), bytes)?;
+    std::fs::write(folder.join("stdout"), lines)?;
+    Ok(())
 }
 
 /// Roots, and a tenth as many of each of centroids, normals and regular tests.
@@ -99,9 +101,9 @@ pub fn compare_checks(meshes: usize) -> Done {
         compare(damage::some_fault(&mut random, MOST_CORNERS), &mut random)?;
     }
     println!("{}", comparison.finish()?);
-    demand(&comparison, [1, 2, 4, 5, 6, 7, 8, 9, 10, 11], 500)?;
     let good = Case::new(Function::CheckClosed, shapes::tetrahedron());
-    compare_bad_streams(&comparison, good, &[0, 12, 19, 27, u32::MAX], &COUNTS)
+    compare_bad_streams(&comparison, good, &[0, 12, 19, 27, u32::MAX], &COUNTS)?;
+    demand(&comparison.tally, [1, 2, 4, 5, 6, 7, 8, 9, 10, 11], 500)
 }
 
 /// Streams that end in a bad case after a good one: cut, of an unknown code, over a limit.
@@ -118,7 +120,7 @@ pub fn compare_bad_streams(
         let given = comparison.run(&[good.as_slice(), bad].concat())?;
         if given != expected {
             let header = show::words(bad);
-            return Err(format!("a bad case of {header} after a good one gives\n{given}"));
+            return Err(format!("a bad case of {header} after a good one gives\n{given}").into());
         }
     }
     println!("{} bad streams, 0 differences", streams.len());
@@ -161,20 +163,23 @@ pub fn compare_operators(done: usize) -> Done {
         add_one(&mut comparison, &mut random, make, |outcome| outcome != Outcome::Done)?;
     }
     println!("{}", comparison.finish()?);
-    demand(&comparison, 1..=14, 1)
+    demand(&comparison.tally, 1..=14, 1)
 }
 
-/// Each number was met so often.
-pub fn demand(
-    comparison: &Comparison,
-    numbers: impl IntoIterator<Item = u32>,
-    often: usize,
-) -> Done {
-    let seldom = |number: &u32| comparison.tally.met(*number) < often;
-    match numbers.into_iter().find(seldom) {
-        Some(number) => Err(format!("number {number} was met less than {often} times")),
-        None => Ok(()),
+/// Each number was met so often. Asked last, so that there is no difference where it was not.
+pub fn demand(tally: &Tally, numbers: impl IntoIterator<Item = u32>, often: usize) -> Done {
+    let seldom = |number: u32| match tally.met(number) {
+        0 => Some(format!("{number} was not met")),
+        met if met < often => Some(format!("{number} was met {met} times")),
+        _ => None,
+    };
+    let seldom: Vec<String> = numbers.into_iter().filter_map(seldom).collect();
+    if seldom.is_empty() {
+        return Ok(());
     }
+    let times = if often > 1 { format!(" {often} times") } else { String::new() };
+    let seldom = seldom.join(", ");
+    Err(Failure::TooFew(format!("N is too small to meet each number{times}: {seldom}")))
 }
 
 /// Makes cases until one has the wanted outcome, and adds that one.
@@ -207,26 +212,23 @@ pub fn report_file(file: Option<&String>) -> Done {
     Ok(())
 }
 
-fn read_file(file: Option<&String>) -> Result<Vec<u8>, String> {
-    std::fs::read(file.ok_or("this command needs a file")?).map_err(text)
+fn read_file(file: Option<&String>) -> Result<Vec<u8>, Failure> {
+    Ok(std::fs::read(file.ok_or("this command needs a file")?)?)
 }
 
 /// Answers a stream of cases as the program that has their codes must.
 pub fn answer_stream() -> Done {
     let mut bytes = Vec::new();
-    std::io::stdin().read_to_end(&mut bytes).map_err(text)?;
+    std::io::stdin().read_to_end(&mut bytes)?;
     let (cases, bad_end) = read_stream(&bytes);
     let mut lines: Vec<String> = cases.iter().map(|case| answer(case).line + "\n").collect();
     if bad_end {
         lines.push("bad case\n".to_string());
     }
-    std::io::stdout().write_all(lines.concat().as_bytes()).map_err(text)
+    std::io::stdout().write_all(lines.concat().as_bytes())?;
+    Ok(())
 }
 
 pub fn variable(name: &str) -> Result<String, String> {
     std::env::var(name).map_err(|_| format!("{name} is not set; start the oracle by oracle/run"))
-}
-
-fn text(error: std::io::Error) -> String {
-    error.to_string()
 }

@@ -41,7 +41,7 @@ pub fn lists(count: usize) -> Done {
         comparison.add_answered(case, answer)?;
     }
     println!("{by_text} lists as the text has them\n{}", comparison.finish()?);
-    demand(&comparison, 1..=14, 1)
+    demand(&comparison.tally, 1..=14, 1)
 }
 
 /// The text's own list and the list's steps make the same mesh.
@@ -54,7 +54,7 @@ fn same_as_the_text(list: List, case: &Case) -> Done {
     if (&ours.offsets, &ours.corners, bits(&ours)) == (&text.offsets, &text.corners, bits(&text)) {
         Ok(())
     } else {
-        Err(format!("{list:?}: the text makes another mesh than the steps of {case:?}"))
+        Err(format!("{list:?}: the text makes another mesh than the steps of {case:?}").into())
     }
 }
 
@@ -83,9 +83,9 @@ pub fn recipes(count: usize) -> Done {
         comparison.add(case)?;
     }
     println!("{}", comparison.finish()?);
-    demand(&comparison, [1, 2, 3, 4, 5, 6, 7, 8, 9, 10, 11, 13, 14], 1)?;
     let mut good = runs::recipe_likely_done(2, &mut random, 12);
     good.extra.file = vec![1, 2, 3, 4, 5];
     let counts = [&COUNTS[..], &extra::COUNTS].concat();
-    compare_bad_streams(&comparison, good, &[0, 11, 26, 30, 43, u32::MAX], &counts)
+    compare_bad_streams(&comparison, good, &[0, 11, 26, 30, 43, u32::MAX], &counts)?;
+    demand(&comparison.tally, (1..=14).filter(|number| *number != 12), 1)
 }

@@ -25,7 +25,7 @@ pub fn compare(files: usize) -> Done {
         }
     }
     println!("{}\n{reports} reports, 0 differences", comparison.finish()?);
-    demand(&comparison, [13, 15, 16, 17, 18], 1)
+    demand(&comparison.tally, [13, 15, 16, 17, 18], 1)
 }
 
 /// What `report` prints; false where there is no such program.

@@ -1,6 +1,7 @@
 //! Each operator at the largest result within the limits.
 use crate::answer::answer;
 use crate::case::{Case, Function, Program};
+use crate::commands::Done;
 use crate::mesh::{Mesh, LIMIT};
 use crate::operator::{Operator, Parameters, OPERATORS};
 use crate::replay::Comparison;
@@ -8,7 +9,7 @@ use crate::shapes;
 use crate::table::{self, Sizes};
 use std::time::Instant;
 
-pub fn compare() -> Result<(), String> {
+pub fn compare() -> Done {
     let mut comparison = Comparison::new(Program::Replay)?;
     for operator in OPERATORS {
         compare_one(&mut comparison, operator, largest(operator))?;
@@ -19,7 +20,7 @@ pub fn compare() -> Result<(), String> {
     Ok(())
 }
 
-fn compare_one(comparison: &mut Comparison, operator: Operator, mesh: Mesh) -> Result<(), String> {
+fn compare_one(comparison: &mut Comparison, operator: Operator, mesh: Mesh) -> Done {
     let parameters = Parameters::default();
     let sizes = table::result_sizes(operator, &parameters, &mesh);
     let function = Function::Operator(operator);

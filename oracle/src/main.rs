@@ -10,6 +10,7 @@ mod compare_runs;
 mod coordinates;
 mod damage;
 mod extra;
+mod failure;
 mod files;
 mod genus;
 mod kept;
@@ -24,14 +25,21 @@ mod panel;
 mod random;
 mod recipe;
 mod replay;
+mod report_cases;
 mod run_answer;
 mod runs;
 mod rust_side;
 mod shapes;
 mod shells;
+mod shipped;
 mod show;
 mod table;
 mod tally;
+
+#[cfg(test)]
+mod outside_tests;
+#[cfg(test)]
+mod shipped_tests;
 #[cfg(test)]
 mod tests;
 
@@ -41,9 +49,9 @@ const USAGE: &str = "commands: list [CODE ..], numbers [N], checks [N], operator
 
 fn main() {
     let arguments: Vec<String> = std::env::args().skip(1).collect();
-    if let Err(message) = rust_side::with_threads(|| run(&arguments)) {
-        eprintln!("oracle: {message}");
-        std::process::exit(1);
+    if let Err(failure) = rust_side::with_threads(|| run(&arguments)) {
+        eprintln!("oracle: {failure}");
+        std::process::exit(failure.status());
     }
 }
 
@@ -67,7 +75,7 @@ fn run(arguments: &[String]) -> commands::Done {
         "case" => commands::show_cases(rest.first()),
         "answer" => commands::answer_stream(),
         "report" => commands::report_file(rest.first()),
-        "shells" => shells::write_all(),
-        _ => Err(USAGE.to_string()),
+        "shells" => shipped::write_all(),
+        _ => Err(USAGE.into()),
     }
 }

@@ -1,40 +1,14 @@
-//! The shells that are shipped: panel files with the reports that the program `report` must print for them.
-use crate::commands::{variable, Done};
+//! The shells that are shipped, as panel files; their faces run clockwise seen from outside.
 use crate::mesh::{Face, Mesh, Point};
 use crate::operator::{Operator, Parameters};
 use crate::panel;
 use crate::recipe::Step;
 use crate::shapes;
-use std::path::{Path, PathBuf};
 
 use Operator::*;
 
-/// Writes NAME.panel and NAME.report of each shell into the folder `data` of the program `report`;
-/// and beside it the arguments that name them all and what it then prints.
-pub fn write_all() -> Done {
-    let crates = variable("LISTS")?;
-    let program = Path::new(&crates).join("report");
-    let shells = program.join("data");
-    let write = |path: PathBuf, bytes: &[u8]| std::fs::write(path, bytes).map_err(text);
-    std::fs::create_dir_all(&shells).map_err(text)?;
-    let (mut arguments, mut printed) = (String::new(), String::new());
-    for (name, bytes) in all() {
-        let report = panel::report(&bytes);
-        write(shells.join(format!("{name}.panel")), &bytes)?;
-        write(shells.join(format!("{name}.report")), report.as_bytes())?;
-        arguments += &format!("{name}.panel\n");
-        printed += &format!("{name}.panel\n{report}");
-        println!("{name}: {} bytes, {} lines", bytes.len(), report.lines().count());
-    }
-    write(program.join("args"), arguments.as_bytes())?;
-    write(program.join("stdout"), printed.as_bytes())
-}
-
-fn text(error: std::io::Error) -> String {
-    error.to_string()
-}
-
-fn all() -> Vec<(&'static str, Vec<u8>)> {
+/// Name and bytes of each.
+pub fn all() -> Vec<(&'static str, Vec<u8>)> {
     let geodesic = panel::write(&[plain(Dual), raised(Kis, 0.05)], &geodesic(2));
     let damaged = geodesic[..geodesic.len() / 2].to_vec();
     vec![
@@ -54,15 +28,15 @@ fn all() -> Vec<(&'static str, Vec<u8>)> {
 
 // ---- steps
 
-fn plain(operator: Operator) -> Step {
+pub fn plain(operator: Operator) -> Step {
     Step { operator, parameters: Parameters::default() }
 }
 
-fn cut(operator: Operator, ratio: f32) -> Step {
+pub fn cut(operator: Operator, ratio: f32) -> Step {
     Step { operator, parameters: Parameters { ratio: Some(ratio), ..Parameters::default() } }
 }
 
-fn raised(operator: Operator, height: f32) -> Step {
+pub fn raised(operator: Operator, height: f32) -> Step {
     Step { operator, parameters: Parameters { height: Some(height), ..Parameters::default() } }
 }
 
@@ -87,7 +61,7 @@ fn rounded(points: &[Wide]) -> Vec<Point> {
 }
 
 /// A convex solid of these points, with a face towards each direction; its corners go round
-/// counter-clockwise as seen from outside, from the lowest on.
+/// clockwise seen from outside, from the lowest on.
 fn solid(points: &[Wide], directions: &[Wide]) -> Mesh {
     let faces: Vec<Face> = directions.iter().map(|&out| face_towards(points, out)).collect();
     Mesh::new(&faces, &rounded(points))
@@ -100,11 +74,11 @@ fn face_towards(points: &[Wide], out: Wide) -> Face {
     let mut face = vec![left.remove(0)];
     while !left.is_empty() {
         let here = points[face[face.len() - 1]];
-        // The next corner has all the others to its left.
+        // The next corner has all the others to its right.
         let next = left.iter().position(|&i| {
             let side = minus(points[i], here);
             let others = left.iter().filter(|&&j| j != i);
-            others.clone().all(|&j| dot(cross(side, minus(points[j], here)), out) > 0.0)
+            others.clone().all(|&j| dot(cross(side, minus(points[j], here)), out) < 0.0)
         });
         face.push(left.remove(next.expect("a convex face")));
     }

@@ -2,7 +2,9 @@
 use crate::answer::{self, answer};
 use crate::arithmetic;
 use crate::case::{Case, Function, Room};
+use crate::commands;
 use crate::damage;
+use crate::failure::Failure;
 use crate::genus::{self, Build};
 use crate::mesh::{Face, Mesh};
 use crate::meshes::AMPLE;
@@ -15,6 +17,7 @@ use crate::recipe::{self, Lent, List, RefusedAt, Step};
 use crate::rust_side;
 use crate::shapes;
 use crate::table::{self, Refusal};
+use crate::tally::Tally;
 
 const LENT: Lent = Lent { work: [AMPLE; 2], output: AMPLE };
 
@@ -549,4 +552,28 @@ fn parts_handles_hubs_and_spares() {
     let hub = shapes::merged(&apart, 0, 8);
     assert_eq!(build(&hub), Build { parts: 2, handles: 1, pinched: 1, ..plain });
     assert_eq!(build(&shapes::with_spares(&hub, 3)), Build { spare: 3, ..build(&hub) });
+}
+
+#[test]
+fn too_few_cases_are_no_difference() {
+    let mut tally = Tally::default();
+    let too_few = |tally: &Tally, often| {
+        commands::demand(tally, [8, 9], often).map_err(|failure| {
+            assert_eq!(failure.status(), 3);
+            failure.to_string()
+        })
+    };
+    let each = "N is too small to meet each number";
+    assert_eq!(too_few(&tally, 1), Err(format!("{each}: 8 was not met, 9 was not met")));
+    let case = Case::new(Function::CheckClosed, with_faces(&[vec![0, 1, 2]]));
+    for _ in 0..2 {
+        tally.count(&case, answer(&case).outcome);
+    }
+    assert_eq!(too_few(&tally, 1), Err(format!("{each}: 8 was not met")));
+    assert_eq!(commands::demand(&tally, [9], 2), Ok(()));
+    assert_eq!(
+        too_few(&tally, 3),
+        Err(format!("{each} 3 times: 8 was not met, 9 was met 2 times"))
+    );
+    assert_eq!(Failure::from("a difference").status(), 1);
 }
