@@ -1,7 +1,44 @@
-/* Calls every function of crossglimmer.h: done, and with each number that it can answer. Compiles as C and as C++. */
+/* Calls every function of crossglimmer.h, over runs and over structs: done, and with each number that it can answer.
+ * Compiles as C and as C++. */
 #include "meshes.h"
 #include "runs.h"
 #include "files.h"
+#include "structs.h"
+#include "stack.h"
+
+/* ---- the numbers in words */
+
+static const char *const WORDS[20] = {
+    "done",
+    "offsets or coordinates of wrong shape",
+    "input over a limit",
+    "ratio or height not finite",
+    "coordinate not finite",
+    "face under three corners",
+    "vertex number not below the positions",
+    "vertex twice in one face",
+    "directed edge met before",
+    "directed edge without reverse",
+    "vertex in fewer than three faces",
+    "faces round a vertex form more than one fan",
+    "result over a limit",
+    "result does not fit the lent output",
+    "result coordinate not finite",
+    "file ends before an item is whole",
+    "count of a file over its limit",
+    "unknown code, forbidden flag or non-zero absent number",
+    "bytes left over",
+    "not a number of the table",
+};
+
+static void test_words(void)
+{
+    cg_answer a = refusal(0, 0, 0).answer;
+    for (a.number = 0; a.number < 20; a.number++)
+        expect("meaning", strcmp(cg_meaning(a.number), WORDS[a.number]) == 0, a);
+    a.number = 0xFFFFFFFFu;
+    expect("meaning", strcmp(cg_meaning(a.number), WORDS[19]) == 0, a);
+}
 
 /* ---- the operators */
 
@@ -134,18 +171,18 @@ static void test_checks(void)
     cg_answer a;
     for (i = 0; i < TO_11; i++) {
         FAULTS[i].mesh();
-        a = cg_check(RUNS(&in));
+        a = call_check();
         expect("check", i < TO_9 ? is(a, FAULTS[i].number, FAULTS[i].place, 0) : is(a, 0, 0, 0), a);
-        a = cg_check_full(RUNS(&in));
+        a = call_check_full();
         expect("check_full", is(a, FAULTS[i].number, FAULTS[i].place, 0), a);
     }
     tetrahedron(1);
-    a = cg_check(RUNS(&in));
+    a = call_check();
     expect("check", is(a, 0, 0, 0), a);
-    a = cg_check_full(RUNS(&in));
+    a = call_check_full();
     expect("check_full", is(a, 0, 0, 0), a);
     clear();
-    a = cg_check_full(RUNS(&in));
+    a = call_check_full();
     expect("check_full", is(a, 0, 0, 0), a);
 }
 
@@ -159,13 +196,13 @@ static void test_edges(void)
     memcpy(kept, list, sizeof list);
     for (i = 0; i < TO_9; i++) {
         FAULTS[i].mesh();
-        a = cg_edges(RUNS(&in), list, 7);
+        a = call_edges(list, 7);
         expect("edges", is(a, FAULTS[i].number, FAULTS[i].place, 0) && memcmp(list, kept, sizeof list) == 0, a);
     }
     tetrahedron(1);
-    a = cg_edges(RUNS(&in), list, 5);
+    a = call_edges(list, 5);
     expect("edges", is(a, 13, 0, 0) && memcmp(list, kept, sizeof list) == 0, a);
-    a = cg_edges(RUNS(&in), list, 7);
+    a = call_edges(list, 7);
     expect("edges", a.number == 0 && a.e == 6 && a.v == 0 && a.f == 0, a);
     expect("edges", memcmp(list, edges, sizeof edges) == 0 && list[6][1] == kept[6][1], a);
 }
@@ -191,19 +228,72 @@ static void test_pieces(void)
     expect_faces("whirl", 0, 6, whirl, perform(CG_WHIRL, &in, NONE, &out));
 }
 
+static cg_answer kis_masked(bool has_arities, const uint32_t *arities, size_t arities_length, bool has_numbers,
+                            const uint32_t *numbers, size_t numbers_length, bool regular)
+{
+    cg_picks p;
+    p.has_arities = has_arities;
+    p.arities = arities;
+    p.arities_length = arities_length;
+    p.has_numbers = has_numbers;
+    p.numbers = numbers;
+    p.numbers_length = numbers_length;
+    p.regular = regular;
+    return call_kis(&in, true, 0.5f, p, &out);
+}
+
 static void test_masks(void)
 {
     uint32_t list[2] = {3, 1};
     cg_answer a;
     tetrahedron(1);
-    a = cg_kis(RUNS(&in), false, 0, true, list, 1, true, list + 1, 1, true, RUNS(&out));
+    a = kis_masked(true, list, 1, true, list + 1, 1, true);
     expect("kis", a.number == 0 && a.v == 5 && a.f == 6, a);
-    a = cg_kis(RUNS(&in), false, 0, true, list + 1, 1, false, list, 0, false, RUNS(&out));
+    a = kis_masked(true, list + 1, 1, false, list, 0, false);
     expect("kis", a.number == 0 && a.v == 4 && a.f == 4, a);
-    a = cg_kis(RUNS(&in), false, 0, false, list, 2, true, list, 0, false, RUNS(&out));
+    a = kis_masked(false, list, 2, true, list, 0, false);
     expect("kis", a.number == 0 && a.v == 4 && a.f == 4, a);
-    a = cg_kis(RUNS(&in), true, 0.5f, false, list, 2, true, list, 2, false, RUNS(&out));
+    a = kis_masked(false, list, 2, true, list, 2, false);
     expect("kis", a.number == 0 && a.v == 6 && a.f == 8, a);
+}
+
+/* Two triangles and three quadrilaterals. */
+static void prism(void)
+{
+    static const uint32_t sides[3][4] = {{1, 0, 3, 4}, {2, 1, 4, 5}, {0, 2, 5, 3}};
+    uint32_t i;
+    clear();
+    add_triangle(0, 1, 2);
+    add_triangle(5, 4, 3);
+    for (i = 0; i < 3; i++)
+        add_face(4, sides[i]);
+    for (i = 0; i < 6; i++)
+        add_point((float)(i % 3 == 1), (float)(i % 3 == 2), (float)(i / 3));
+}
+
+/* Whichever faces are picked, the room that the header names does; where all are, it is the least. */
+static void test_kis_room(void)
+{
+    uint32_t bits;
+    for (bits = 0; bits < 32; bits++) {
+        uint32_t picked[5], p = 0, q = 0, f, place;
+        cg_answer a;
+        prism();
+        for (f = 0; f < 5; f++)
+            if ((bits >> f & 1) != 0) {
+                picked[p++] = f;
+                q += in.offsets[f + 1] - in.offsets[f];
+            }
+        lend(&out, 18 + 1, 3 * 18, 3 * (6 + 5));
+        a = kis_masked(false, NULL, 0, true, picked, p, false);
+        expect("kis", a.number == 0 && a.f == 5 - p + q && out.offsets[a.f] == 18 + 2 * q && a.v == 6 + p, a);
+        for (place = 0; p == 5 && place < 3; place++) {
+            lend(&out, 18 + 1 - (place == 0), 3 * 18 - (place == 1), 3 * (6 + 5) - (place == 2));
+            a = kis_masked(false, NULL, 0, true, picked, p, false);
+            expect("kis", is(a, 13, place, 0) && untouched(&out, 0, 0, 0), a);
+        }
+    }
+    fill();
 }
 
 static void test_diagonals(void)
@@ -216,11 +306,11 @@ static void test_diagonals(void)
     add_point(0, -1, 0);
     add_point(2, 0, 0);
     add_point(0, 1, 0);
-    expect_faces("triangulate", 0, 6, shorter, cg_triangulate(RUNS(&in), true, RUNS(&out)));
-    expect_faces("triangulate", 0, 6, longer, cg_triangulate(RUNS(&in), false, RUNS(&out)));
+    expect_faces("triangulate", 0, 6, shorter, call_triangulate(&in, true, &out));
+    expect_faces("triangulate", 0, 6, longer, call_triangulate(&in, false, &out));
 }
 
-int main(void)
+static void test_all(void)
 {
     size_t i;
     for (i = 0; i < sizeof OPERATIONS / sizeof *OPERATIONS; i++) {
@@ -235,10 +325,23 @@ int main(void)
     test_edges();
     test_pieces();
     test_masks();
+    test_kis_room();
     test_diagonals();
     test_lists();
     test_recipes();
     test_files();
+    test_stack();
+}
+
+int main(void)
+{
+    test_words();
+    by_structs = false;
+    test_all();
+    by_structs = true;
+    test_all();
+    test_forms();
+    test_nulls();
     printf("%d answers, %d unexpected\n", calls, wrong);
     return wrong == 0 ? EXIT_SUCCESS : EXIT_FAILURE;
 }

@@ -7,7 +7,7 @@ static size_t bytes_length;
 
 /* ---- files made here, word by word, with where each item starts */
 
-static size_t items[2000], item_count;
+static size_t items[2100], item_count;
 
 static void add_item(void) { items[item_count++] = bytes_length; }
 
@@ -96,7 +96,11 @@ static bool is_filing(cg_filing f, size_t steps)
         && f.faces == in.offsets_length - 1 && f.corners == in.corners_length;
 }
 
-static cg_filing call_read(void) { return cg_panel_read(bytes, bytes_length, RUNS(&out)); }
+static cg_filing call_read(void)
+{
+    return by_structs ? cg_panel_read_of(bytes, bytes_length, room(&out))
+                      : cg_panel_read(bytes, bytes_length, RUNS(&out));
+}
 
 static cg_filing call_steps(size_t lent)
 {
@@ -174,7 +178,8 @@ static cg_writing call_write(const cg_step *steps, size_t n, size_t lent)
     size_t i;
     for (i = 0; i < FILE_ROOM; i++)
         file[i] = (uint8_t)(7 + i);
-    return cg_panel_write(steps, n, RUNS(&in), file, lent);
+    return by_structs ? cg_panel_write_of(steps, n, whole(&in), file, lent)
+                      : cg_panel_write(steps, n, RUNS(&in), file, lent);
 }
 
 static void refuse_write(const cg_step *steps, size_t n, size_t lent, uint32_t number, uint32_t place)
@@ -328,11 +333,38 @@ static void write_limits(void)
     refuse_write(steps, 3, 0, 13, 0);
 }
 
+static float float_of(uint32_t word)
+{
+    float x;
+    memcpy(&x, &word, sizeof x);
+    return x;
+}
+
+/* Every NaN is written as one; all other numbers with their own bits. */
+static void file_nans(void)
+{
+    static const uint32_t words[8] = {0x7FC00000u, 0x7FC01234u, 0xFFC00000u, 0x7F800001u, 0xFFFFFFFFu,
+                                      0x7F800000u, 0xFF800000u, 0x80000000u};
+    size_t i;
+    for (i = 0; i < 8; i++) {
+        cg_step s = step(CG_GYRO, CG_RATIO + CG_HEIGHT, float_of(words[i]), float_of(words[i]));
+        cg_step one = s;
+        tetrahedron(1);
+        in.coords[4] = float_of(words[i]);
+        if (i < 5)
+            in.coords[4] = one.ratio = one.height = float_of(0x7FC00000u);
+        make_file(&one, 1);
+        in.coords[4] = float_of(words[i]);
+        write_file(&s, 1);
+    }
+}
+
 static void test_files(void)
 {
     file_done();
     file_ends();
     file_counts();
     file_steps();
+    file_nans();
     write_limits();
 }

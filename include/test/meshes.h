@@ -1,4 +1,4 @@
-/* What the tests share: meshes, runs to lend, what is asked of an answer, and the operators as calls of one form. */
+/* What the tests share: meshes, runs to lend, what is asked of an answer, and the calls, over runs or over structs. */
 #include "crossglimmer.h"
 
 #include <math.h>
@@ -7,8 +7,8 @@
 #include <string.h>
 
 typedef struct mesh {
-    uint32_t offsets[60100];
-    uint32_t corners[60100];
+    uint32_t offsets[60200];
+    uint32_t corners[60200];
     float coords[180300];
     size_t offsets_length, corners_length, coords_length;
 } mesh;
@@ -235,7 +235,41 @@ static bool is(cg_answer a, uint32_t number, uint32_t place, uint32_t step)
     return a.number == number && a.place == place && a.step == step && a.v == 0 && a.e == 0 && a.f == 0;
 }
 
-/* ---- the operators as calls of one form */
+/* ---- the calls, over runs or over structs */
+
+static bool by_structs; /* which of the two; every test is made with both */
+
+static cg_mesh whole(const mesh *m)
+{
+    cg_mesh w;
+    w.offsets = m->offsets;
+    w.offsets_length = m->offsets_length;
+    w.corners = m->corners;
+    w.corners_length = m->corners_length;
+    w.coords = m->coords;
+    w.coords_length = m->coords_length;
+    return w;
+}
+
+static cg_room room(mesh *m)
+{
+    cg_room r;
+    r.offsets = m->offsets;
+    r.offsets_length = m->offsets_length;
+    r.corners = m->corners;
+    r.corners_length = m->corners_length;
+    r.coords = m->coords;
+    r.coords_length = m->coords_length;
+    return r;
+}
+
+static cg_answer call_check(void) { return by_structs ? cg_check_of(whole(&in)) : cg_check(RUNS(&in)); }
+static cg_answer call_check_full(void) { return by_structs ? cg_check_full_of(whole(&in)) : cg_check_full(RUNS(&in)); }
+
+static cg_answer call_edges(uint32_t (*list)[2], size_t length)
+{
+    return by_structs ? cg_edges_of(whole(&in), list, length) : cg_edges(RUNS(&in), list, length);
+}
 
 /* What an operator takes beside its mesh. */
 typedef struct extras {
@@ -246,26 +280,69 @@ typedef struct extras {
 
 static const extras NONE = {false, false, 0.0f, 0.0f, {false, NULL, 0, false}};
 
-static cg_answer do_kis(const mesh *m, extras x, mesh *to)
+#define RATIO x.has_ratio, x.ratio
+#define HEIGHT x.has_height, x.height
+
+static cg_answer call_triangulate(const mesh *m, bool shorter, mesh *to)
 {
-    uint32_t none = 0;
-    return cg_kis(RUNS(m), x.has_height, x.height, x.masks.has_arities, x.masks.has_arities ? x.masks.arities : &none,
-                  x.masks.arities_length, false, &none, 0, x.masks.regular, RUNS(to));
+    return by_structs ? cg_triangulate_of(whole(m), shorter, room(to)) : cg_triangulate(RUNS(m), shorter, RUNS(to));
 }
 
-static cg_answer perform(uint32_t code, const mesh *m, extras x, mesh *to)
+static cg_answer call_kis(const mesh *m, bool has_height, float height, cg_picks p, mesh *to)
+{
+    const uint32_t none = 0;
+    if (by_structs)
+        return cg_kis_of(whole(m), has_height, height, p, room(to));
+    return cg_kis(RUNS(m), has_height, height, p.has_arities, p.arities != NULL ? p.arities : &none, p.arities_length,
+                  p.has_numbers, p.numbers != NULL ? p.numbers : &none, p.numbers_length, p.regular, RUNS(to));
+}
+
+static cg_answer kis_in_list(const mesh *m, extras x, mesh *to)
+{
+    cg_picks p = cg_pick_all();
+    p.has_arities = x.masks.has_arities;
+    p.arities = x.masks.arities;
+    p.arities_length = x.masks.arities_length;
+    p.regular = x.masks.regular;
+    return call_kis(m, HEIGHT, p, to);
+}
+
+static cg_answer perform_runs(uint32_t code, const mesh *m, extras x, mesh *to)
 {
     switch (code) {
-    case CG_AMBO: return cg_ambo(RUNS(m), x.has_ratio, x.ratio, RUNS(to));
-    case CG_CHAMFER: return cg_chamfer(RUNS(m), x.has_ratio, x.ratio, RUNS(to));
+    case CG_AMBO: return cg_ambo(RUNS(m), RATIO, RUNS(to));
+    case CG_CHAMFER: return cg_chamfer(RUNS(m), RATIO, RUNS(to));
     case CG_DUAL: return cg_dual(RUNS(m), RUNS(to));
-    case CG_GYRO: return cg_gyro(RUNS(m), x.has_ratio, x.ratio, x.has_height, x.height, RUNS(to));
-    case CG_KIS: return do_kis(m, x, to);
-    case CG_PROPELLOR: return cg_propellor(RUNS(m), x.has_ratio, x.ratio, RUNS(to));
-    case CG_QUINTO: return cg_quinto(RUNS(m), x.has_height, x.height, RUNS(to));
+    case CG_GYRO: return cg_gyro(RUNS(m), RATIO, HEIGHT, RUNS(to));
+    case CG_PROPELLOR: return cg_propellor(RUNS(m), RATIO, RUNS(to));
+    case CG_QUINTO: return cg_quinto(RUNS(m), HEIGHT, RUNS(to));
     case CG_REFLECT: return cg_reflect(RUNS(m), RUNS(to));
     case CG_REVERSE: return cg_reverse(RUNS(m), RUNS(to));
-    case CG_WHIRL: return cg_whirl(RUNS(m), x.has_ratio, x.ratio, x.has_height, x.height, RUNS(to));
-    default: return cg_triangulate(RUNS(m), true, RUNS(to));
+    default: return cg_whirl(RUNS(m), RATIO, HEIGHT, RUNS(to));
     }
+}
+
+static cg_answer perform_structs(uint32_t code, cg_mesh m, extras x, cg_room to)
+{
+    switch (code) {
+    case CG_AMBO: return cg_ambo_of(m, RATIO, to);
+    case CG_CHAMFER: return cg_chamfer_of(m, RATIO, to);
+    case CG_DUAL: return cg_dual_of(m, to);
+    case CG_GYRO: return cg_gyro_of(m, RATIO, HEIGHT, to);
+    case CG_PROPELLOR: return cg_propellor_of(m, RATIO, to);
+    case CG_QUINTO: return cg_quinto_of(m, HEIGHT, to);
+    case CG_REFLECT: return cg_reflect_of(m, to);
+    case CG_REVERSE: return cg_reverse_of(m, to);
+    default: return cg_whirl_of(m, RATIO, HEIGHT, to);
+    }
+}
+
+/* An operator by its code. */
+static cg_answer perform(uint32_t code, const mesh *m, extras x, mesh *to)
+{
+    if (code == CG_KIS)
+        return kis_in_list(m, x, to);
+    if (code == CG_TRIANGULATE)
+        return call_triangulate(m, true, to);
+    return by_structs ? perform_structs(code, whole(m), x, room(to)) : perform_runs(code, m, x, to);
 }

@@ -140,33 +140,7 @@ typedef struct list {
     uint32_t steps[6];
 } list;
 
-static cg_mesh whole(const mesh *m)
-{
-    cg_mesh w;
-    w.offsets = m->offsets;
-    w.offsets_length = m->offsets_length;
-    w.corners = m->corners;
-    w.corners_length = m->corners_length;
-    w.coords = m->coords;
-    w.coords_length = m->coords_length;
-    return w;
-}
-
-static cg_room room(mesh *m)
-{
-    cg_room r;
-    r.offsets = m->offsets;
-    r.offsets_length = m->offsets_length;
-    r.corners = m->corners;
-    r.corners_length = m->corners_length;
-    r.coords = m->coords;
-    r.coords_length = m->coords_length;
-    return r;
-}
-
 #define ROOMS room(&first), room(&second), room(&out)
-#define RATIO x.has_ratio, x.ratio
-#define HEIGHT x.has_height, x.height
 
 static cg_answer do_bevel(extras x) { return cg_bevel(whole(&in), RATIO, HEIGHT, x.masks, ROOMS); }
 static cg_answer do_expand(extras x) { return cg_expand(whole(&in), RATIO, ROOMS); }
@@ -218,6 +192,8 @@ static cg_answer call_list(uint32_t code, extras x)
 {
     uint32_t none = 0;
     const uint32_t *arities = x.masks.has_arities ? x.masks.arities : &none;
+    if (by_structs)
+        return cg_list_of(code, whole(&in), RATIO, HEIGHT, x.masks, ROOMS);
     return cg_list(code, RUNS(&in), RATIO, HEIGHT, x.masks.has_arities, arities, x.masks.arities_length,
                    x.masks.regular, RUNS(&first), RUNS(&second), RUNS(&out));
 }
@@ -322,6 +298,31 @@ static void list_later(void)
     refuse_list(&LISTS[CG_SNUB - 1], NONE, 14, 0, 1);
 }
 
+/* As much as always does. */
+static void lend_most(void)
+{
+    lend(&out, CG_LIMIT + 1, CG_LIMIT, 3 * CG_LIMIT);
+    lend(&first, CG_LIMIT + 1, CG_LIMIT, 3 * CG_LIMIT);
+    lend(&second, CG_LIMIT + 1, CG_LIMIT, 3 * CG_LIMIT);
+}
+
+/* With it 13 does not come: done, and where a result is over a limit, 12. */
+static void list_most(void)
+{
+    expected e;
+    size_t i;
+    tetrahedron(1);
+    for (i = 0; i < LIST_COUNT; i++) {
+        e = follow_list(&LISTS[i], NONE);
+        lend_most();
+        expect_run(LISTS[i].name, &e, call_list(LISTS[i].code, NONE));
+    }
+    surface(58);
+    e = refusal(12, 1, 1);
+    lend_most();
+    expect_run("zip", &e, call_list(CG_ZIP, NONE));
+}
+
 static void list_unknown(void)
 {
     static const uint32_t codes[3] = {0, 11, 0xFFFFFFFFu};
@@ -347,6 +348,7 @@ static void test_lists(void)
         list_room(&LISTS[i]);
     }
     list_later();
+    list_most();
     list_unknown();
 }
 
@@ -356,6 +358,13 @@ enum { LEDGER = 72 };
 
 static uint32_t ledger[LEDGER];
 
+static cg_answer call_recipe(const cg_step *steps, size_t n, size_t lent)
+{
+    if (by_structs)
+        return cg_recipe_of(steps, n, ledger, lent, whole(&in), ROOMS);
+    return cg_recipe(steps, n, ledger, lent, RUNS(&in), RUNS(&first), RUNS(&second), RUNS(&out));
+}
+
 /* Calls it with a ledger of so many numbers, and asks of these that just the finished rows were written. */
 static void expect_recipe(const cg_step *steps, size_t n, size_t lent, const expected *e)
 {
@@ -364,7 +373,7 @@ static void expect_recipe(const cg_step *steps, size_t n, size_t lent, const exp
     cg_answer a;
     for (i = 0; i < LEDGER; i++)
         ledger[i] = (uint32_t)(7 + i);
-    a = cg_recipe(steps, n, ledger, lent, RUNS(&in), RUNS(&first), RUNS(&second), RUNS(&out));
+    a = call_recipe(steps, n, lent);
     for (i = 4 * e->finished; i < LEDGER; i++)
         kept = kept && ledger[i] == (uint32_t)(7 + i);
     expect("ledger", kept && memcmp(ledger, e->rows, 16 * e->finished) == 0, a);
@@ -462,6 +471,38 @@ static void recipe_limits(void)
     expect_recipe(steps, 2, 8, &e);
 }
 
+/* Room that always does: 12 after seven steps, and copies of meshes at a limit, which one element less cannot hold. */
+static void recipe_most(void)
+{
+    cg_step steps[16];
+    uint32_t i;
+    expected e;
+    for (i = 0; i < 16; i++)
+        steps[i] = plain(CG_KIS);
+    tetrahedron(1);
+    e = follow(steps, 16, NONE.masks);
+    expect("recipe", is(e.answer, 12, 1, 8) && e.finished == 7, e.answer);
+    lend_most();
+    expect_recipe(steps, 16, 4 * CG_STEPS, &e);
+    for (i = 0; i < 3; i++)
+        steps[i] = plain(CG_REVERSE);
+    for (i = 1; i < 3; i++) {
+        if (i == 1)
+            stack(1000);
+        else
+            with_spares(CG_LIMIT);
+        e = follow(steps, 3, NONE.masks);
+        lend_most();
+        expect_recipe(steps, 3, 4 * CG_STEPS, &e);
+        expect("recipe", e.answer.number == 0, e.answer);
+        e.answer = refusal(13, i, 2).answer;
+        e.finished = 1;
+        lend_most();
+        lend(&second, CG_LIMIT + 1, CG_LIMIT - (i == 1), 3 * CG_LIMIT - (i == 2));
+        expect_recipe(steps, 3, 4 * CG_STEPS, &e);
+    }
+}
+
 static void recipe_room(void)
 {
     cg_step steps[5];
@@ -552,6 +593,7 @@ static void test_recipes(void)
     recipe_numbers();
     recipe_faults();
     recipe_limits();
+    recipe_most();
     recipe_room();
     recipe_none();
     recipe_early();

@@ -3,11 +3,19 @@
 //! The work is done by a static library that was proved to answer every call: with the mesh that its definition gives,
 //! or with a [`Refusal`] that says what is wrong and where. This crate hands slices over and answers back; it adds no
 //! rule of its own. [`Mesh`] owns its numbers and has the operators as methods; [`slices`] has them over lent slices.
+//! All that a call may refuse stands in [the table of numbers](Refusal#the-table-of-numbers).
+//!
+//! Faces run clockwise seen from outside, and a height above 0 then goes out; data from OFF, OBJ or STL files run
+//! counter-clockwise as a rule: `reverse` them before, and `reverse` the result after.
 //!
 //! ```
 //! use crossglimmer::{Masks, Mesh};
 //! let domed = Mesh::tetrahedron().kis(Some(0.5), Masks::default())?;
 //! assert_eq!(domed.face_count(), 12);
+//! for face in domed.faces() {
+//!     let [a, b, c] = [face[0], face[1], face[2]].map(|vertex| domed.point(vertex));
+//!     println!("{a:?} {b:?} {c:?}");
+//! }
 //!
 //! let mut torn = domed;
 //! torn.corners.swap(0, 1);

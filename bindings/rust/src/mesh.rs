@@ -65,13 +65,41 @@ impl Mesh {
         Read { offsets: &self.offsets, corners: &self.corners, coords: &self.coords }
     }
 
-    /// How many positions it has.
+    /// How many positions it has; [`Mesh::points`] has the positions themselves.
     ///
     /// ```
     /// assert_eq!(crossglimmer::Mesh::tetrahedron().positions(), 4);
     /// ```
     pub fn positions(&self) -> usize {
         self.coords.len() / 3
+    }
+
+    /// x, y and z of a vertex, by its number as the corners have it.
+    ///
+    /// ```
+    /// let mesh = crossglimmer::Mesh::tetrahedron();
+    /// assert_eq!(mesh.point(1), [-1.0, 1.0, -1.0]);
+    /// assert_eq!(mesh.point(mesh.corners[5]), mesh.point(1));
+    /// ```
+    ///
+    /// # Panics
+    /// Where the mesh has no such vertex, as indexing does. The corners of a mesh that was checked, or that a call has
+    /// made, are all below [`Mesh::positions`].
+    pub fn point(&self, vertex: u32) -> [f32; 3] {
+        let at = 3 * vertex as usize;
+        [self.coords[at], self.coords[at + 1], self.coords[at + 2]]
+    }
+
+    /// The points of all its positions, in order; numbers at the end that are not three are left out.
+    ///
+    /// ```
+    /// let mesh = crossglimmer::Mesh::tetrahedron();
+    /// assert_eq!(mesh.points().len(), mesh.positions());
+    /// let highest = mesh.points().map(|[_, _, z]| z).fold(f32::MIN, f32::max);
+    /// assert_eq!(highest, 1.0);
+    /// ```
+    pub fn points(&self) -> impl ExactSizeIterator<Item = [f32; 3]> + '_ {
+        self.coords.chunks_exact(3).map(|point| [point[0], point[1], point[2]])
     }
 
     /// How many faces it has.

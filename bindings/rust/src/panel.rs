@@ -55,7 +55,7 @@ impl Panel {
         Ok(Panel { steps, mesh })
     }
 
-    /// Writes it as a file.
+    /// Writes it as a file. Which NaN a NaN is, its payload and sign, is not kept: each is written as 0x7FC00000.
     ///
     /// ```
     /// # use crossglimmer::{Mesh, Panel, Step};

@@ -4,22 +4,48 @@ use std::fmt;
 
 /// Why a call was refused. No element of a result was written.
 ///
-/// The numbers are those of document 01's table; the place is an index or, for some numbers, a name.
+/// It prints in words, also by `Debug`: a `main` that answers `Result<(), Refusal>` ends with them.
 ///
 /// ```
 /// use crossglimmer::Refusal;
 /// let refusal = Refusal { number: 9, place: 17, step: 0 };
 /// assert_eq!(refusal.to_string(), "9 at 17: edge from corner 17 has no reverse");
 /// let refusal = Refusal { number: 12, place: 1, step: 3 };
-/// assert_eq!(refusal.to_string(), "12 at 1 in step 3: result has over 60000 corners");
+/// assert_eq!(format!("{refusal:?}"), "12 at 1 in step 3: result has over 60000 corners");
 /// ```
-#[derive(Clone, Copy, Debug, PartialEq, Eq, Hash)]
+///
+/// # The table of numbers
+///
+/// | number | when | place |
+/// |---|---|---|
+/// | 1 | offsets or coordinates of wrong shape | 0 offsets, 1 coordinates |
+/// | 2 | input over a limit | 0 faces, 1 corners, 2 positions, 3 steps |
+/// | 3 | ratio or height not finite | 0 ratio, 1 height |
+/// | 4 | coordinate not finite | its index in coords |
+/// | 5 | face under three corners | the face |
+/// | 6 | vertex number not below the positions | the corner |
+/// | 7 | vertex twice in one face | the face |
+/// | 8 | directed edge met before | the corner it starts at |
+/// | 9 | directed edge without reverse | the corner it starts at |
+/// | 10 | vertex in fewer than three faces | the vertex |
+/// | 11 | faces round a vertex form more than one fan | the vertex |
+/// | 12 | result over a limit | 0 faces, 1 corners, 2 positions |
+/// | 13 | result does not fit the lent output | 0 offsets, edges or bytes, 1 corners, 2 coordinates, 3 ledger or steps |
+/// | 14 | result coordinate not finite | its index in the result's coords |
+/// | 15 | file ends before an item is whole | the byte that the item starts at |
+/// | 16 | count of a file over its limit | the byte that the count starts at |
+/// | 17 | unknown code, forbidden flag or non-zero absent number | the byte that the step starts at: 16 i for step i, from 0, of a run of steps; 0 for an unknown list |
+/// | 18 | bytes left over | the first of them |
+///
+/// The limits are [`LIMIT`](crate::LIMIT) faces, corners and positions each, and 16 steps; the panel file has its own.
+/// The first number that holds is answered, at its lowest place.
+#[derive(Clone, Copy, PartialEq, Eq, Hash)]
 pub struct Refusal {
     /// 1 to 18.
     pub number: u32,
     /// Where: an index, 0 for faces, 1 for corners and the like, or in a file and in steps a byte.
     pub place: u32,
-    /// In a list or a recipe the step, from 1; else 0.
+    /// In a list or a recipe the step, from 1; else 0, and where they are refused before their first step.
     pub step: u32,
 }
 
@@ -30,7 +56,39 @@ fn name(names: [&'static str; 4], place: u32) -> &'static str {
     names.get(place as usize).copied().unwrap_or("elements")
 }
 
+/// The table's words for numbers 1 to 18.
+const WHEN: [&str; 18] = [
+    "offsets or coordinates of wrong shape",
+    "input over a limit",
+    "ratio or height not finite",
+    "coordinate not finite",
+    "face under three corners",
+    "vertex number not below the positions",
+    "vertex twice in one face",
+    "directed edge met before",
+    "directed edge without reverse",
+    "vertex in fewer than three faces",
+    "faces round a vertex form more than one fan",
+    "result over a limit",
+    "result does not fit the lent output",
+    "result coordinate not finite",
+    "file ends before an item is whole",
+    "count of a file over its limit",
+    "unknown code, forbidden flag or non-zero absent number",
+    "bytes left over",
+];
+
 impl Refusal {
+    /// When the number is answered, in the words of the table.
+    ///
+    /// ```
+    /// let refusal = crossglimmer::Refusal { number: 5, place: 2, step: 0 };
+    /// assert_eq!(refusal.when(), "face under three corners");
+    /// ```
+    pub fn when(&self) -> &'static str {
+        WHEN.get((self.number as usize).wrapping_sub(1)).copied().unwrap_or("not a number of the table")
+    }
+
     /// What the number and the place mean.
     ///
     /// ```
@@ -73,6 +131,12 @@ impl fmt::Display for Refusal {
             write!(to, " in step {}", self.step)?;
         }
         write!(to, ": {}", self.meaning())
+    }
+}
+
+impl fmt::Debug for Refusal {
+    fn fmt(&self, to: &mut fmt::Formatter) -> fmt::Result {
+        fmt::Display::fmt(self, to)
     }
 }
 

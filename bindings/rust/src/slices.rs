@@ -439,6 +439,7 @@ pub fn panel_steps(bytes: &[u8], out: &mut [[u32; 4]]) -> Result<Filed, Refusal>
 }
 
 /// Writes steps and a mesh, of which only the shape is checked, as a panel file; hands back how many bytes it has.
+/// Which NaN a NaN is, its payload and sign, is not kept: each is written as 0x7FC00000.
 ///
 /// ```
 /// # use crossglimmer::{slices, Mesh, Step};
