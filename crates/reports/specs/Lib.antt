@@ -1,1 +1,4 @@
-pub mod Fits
+pub mod Report
+pub mod Front
+pub mod ReportLaws
+pub mod Examples

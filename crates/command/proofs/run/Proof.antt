@@ -1,7 +1,7 @@
 use Prim.Native.Nat.{_-_, _≤_}
 use borrow.Author.Needs.{needs}
-use Rattle.report.proofs.main.Statement.{statement}
-use Rattle.report.proofs.main.Tie as tie
+use Rattle.command.proofs.run.Statement.{statement}
+use Rattle.command.proofs.run.Tie as tie
 
 abbrev Inv-loop : tie.InvT-loop
 Inv-loop count i₀ i = i ≤ count
@@ -11,6 +11,9 @@ abbrev μ-loop : tie.MeasureT-loop
 
 arg-count-requires : tie.Need-arg-count-requires Inv-loop μ-loop
 arg-count-requires c κs = search needs
+
+slice-aggregate-report-from : tie.Need-slice-aggregate-report-from Inv-loop μ-loop
+slice-aggregate-report-from c = search needs
 
 report-from-requires : tie.Need-report-from-requires Inv-loop μ-loop
 report-from-requires c κs = search needs
@@ -36,13 +39,14 @@ loop-again c = search needs
 returns-2 : tie.Need-returns-2 Inv-loop μ-loop
 returns-2 c = search needs
 
-pub main-spec : {M : Type 1} → statement M
-main-spec =
+pub run-spec : {M : Type 1} → statement M
+run-spec =
     tie.close
     (tie.spec
     Inv-loop
     μ-loop
     arg-count-requires
+    slice-aggregate-report-from
     report-from-requires
     returns
     loop-holds

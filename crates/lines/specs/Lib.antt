@@ -1,0 +1,4 @@
+pub mod Lines
+pub mod Told
+pub mod LineLaws
+pub mod Examples
