@@ -1,5 +1,7 @@
 // The bench pieces about operators: a line a call with its name, number, place, step, V, E and F.
 
+#![tactic(auto)]
+
 use engine::Answer;
 use libc::STDOUT_FILENO;
 use operators::Number;

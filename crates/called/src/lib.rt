@@ -1,5 +1,7 @@
 // A recipe of steps given as words, and lists given by a number, for callers that have no enums.
 
+#![tactic(auto)]
+
 ghost use Rattle.std.specs.Prelude.{◌≡◌, ◌/◌, length};
 ghost use Rattle.engine.specs.declared.Answer.TheVariants.{Refused};
 ghost use Rattle.steps.specs.Steps.{mesh, room};

@@ -6,7 +6,7 @@ ghost use Rattle.cases.specs.Header.{Within};
 use crate::input::{Block, word};
 use slices::wide;
 
-#[derive(Drop)]
+#[derive(Clone, Copy)]
 pub struct Header {
     pub code: u32,
     pub flags: u32,

@@ -1,5 +1,7 @@
 // The steps of a list one after the other, from one work mesh into the other, and the last into the output.
 
+#![tactic(auto)]
+
 ghost use Rattle.std.specs.Prelude.{◌≡◌, ◌+◌, ◌<◌, length, take, drop};
 ghost use Rattle.steps.specs.Steps.{masks, room};
 ghost use Rattle.chain.specs.Trail.{trail};
@@ -10,7 +12,7 @@ use picks::Mask;
 use steps::Step;
 
 // A row of the ledger.
-#[derive(Drop)]
+#[derive(Clone, Copy)]
 pub struct Row {
     pub code: u32,
     pub v: u32,
@@ -19,7 +21,7 @@ pub struct Row {
 }
 
 // What came of a list: its answer, the rows of its finished steps, and how many these are.
-#[derive(Drop)]
+#[derive(Clone, Copy)]
 pub struct Ran {
     pub answer: Answer,
     pub rows: [Row; 16],
@@ -27,7 +29,7 @@ pub struct Ran {
 }
 
 // How many offsets, corners and coordinates of a work mesh are the mesh that lies at its front.
-#[derive(Drop)]
+#[derive(Clone, Copy)]
 pub struct Extent {
     pub offsets: usize,
     pub corners: usize,

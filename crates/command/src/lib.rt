@@ -1,9 +1,11 @@
 // The command `report`: panel files by name or from standard input, their reports on standard output, what failed on standard error.
 
+#![tactic(auto)]
+
 use libc::{STDERR_FILENO, STDIN_FILENO, STDOUT_FILENO};
 
 // What came of reading: so many bytes, or a read that failed.
-#[derive(Drop)]
+#[derive(Clone, Copy)]
 enum Got {
     Bytes(usize),
     Failed,

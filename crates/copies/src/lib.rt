@@ -1,5 +1,7 @@
 // A mesh copied as it is: what a list of no steps does.
 
+#![tactic(auto)]
+
 ghost use Rattle.std.specs.Prelude.{◌≡◌, length};
 ghost use Rattle.engine.specs.Result.{Came};
 ghost use Rattle.copies.specs.Copy.{copy_outcome};

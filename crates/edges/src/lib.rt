@@ -1,5 +1,7 @@
 // The edge list of a mesh.
 
+#![tactic(auto)]
+
 ghost use Rattle.std.specs.Prelude.{◌≡◌, ◌+◌, ◌≤◌, length};
 ghost use Rattle.std.proofs.lemmas.List.Edits.{sets};
 ghost use Rattle.slices.specs.Lists.{each};
@@ -10,7 +12,7 @@ ghost use Rattle.mesh.specs.Shape.{Shaped, In};
 use mesh::{Verdict, check, face_after, up_in, ups_below, window_in};
 
 // How a call that lists the edges ends: how many there are, or a refusal.
-#[derive(Drop)]
+#[derive(Clone, Copy)]
 pub enum Listing {
     Listed { edges: u32 },
     Refused { number: u32, place: u32 },

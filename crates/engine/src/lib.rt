@@ -1,5 +1,7 @@
 // The engine: an operator as data, checked and carried out by one function.
 
+#![tactic(auto)]
+
 ghost use Rattle.std.specs.Prelude.{◌≡◌, List, ◌++◌, ◌+◌, ◌*◌, ◌/◌, ◌≤◌, length, set, Float};
 ghost use Rattle.slices.specs.First.{first};
 ghost use Rattle.slices.specs.Lists.{over};
@@ -17,7 +19,7 @@ ghost use Rattle.engine.specs.Known.{Ruled, Known, refusal_of, front, points, se
 ghost use Rattle.engine.specs.declared.Answer.TheVariants.{Done};
 
 // The counts of a mesh: positions, edges, faces.
-#[derive(Drop)]
+#[derive(Clone, Copy)]
 pub struct Counts {
     pub v: u32,
     pub e: u32,
@@ -25,14 +27,14 @@ pub struct Counts {
 }
 
 // What a call answers: the counts of the mesh written, or the number, place and step of the refusal.
-#[derive(Drop)]
+#[derive(Clone, Copy)]
 pub enum Answer {
     Done(Counts),
     Refused { number: u32, place: u32, step: u32 },
 }
 
 // Which groups of the table an operator asks: up to 7, up to 9, up to 11.
-#[derive(Drop)]
+#[derive(Clone, Copy)]
 pub enum Asks {
     Open,
     Closed,
@@ -40,7 +42,7 @@ pub enum Asks {
 }
 
 // An operator: which tests it asks; its three sections of points and two of faces; its numbers and the masks that it was given.
-#[derive(Drop)]
+#[derive(Clone, Copy)]
 pub struct Plan {
     pub asks: Asks,
     pub olds: spots::Points,
@@ -54,7 +56,7 @@ pub struct Plan {
 }
 
 // How many faces, corners and coordinates the result of a plan has.
-#[derive(Drop)]
+#[derive(Clone, Copy)]
 struct Sizes {
     faces: usize,
     corners: usize,

@@ -1,5 +1,7 @@
 // The boundary to C and Rust: each exposed function with numbers as themselves, a slice as a pointer and a length, a number that may be absent as a flag and a value, and the answer as six numbers by value.
 
+#![tactic(auto)]
+
 ghost use Rattle.std.specs.Prelude.{◌≡◌, ◌/◌, length};
 ghost use Rattle.mesh.specs.Tests.{verdict, tests, full_tests};
 ghost use Rattle.edges.specs.EdgeList.{listing};

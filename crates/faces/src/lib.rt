@@ -1,5 +1,7 @@
 // What a face gives of its run of corners: its centroid, its average normal, whether it is regular.
 
+#![tactic(auto)]
+
 ghost use Rattle.std.specs.Prelude.{◌≡◌, ◌+◌, ◌*◌, ◌<◌, ◌≤◌, length};
 ghost use Rattle.faces.specs.Face.{point_at, put_at, InReach, centroid_of};
 ghost use Rattle.faces.specs.Normal.{taken, round_at, corner_normal, tally_to, average_normal_of};
@@ -36,7 +38,7 @@ pub fn centroid(coords: &[f32], face: &[u32]) -> Point
 }
 
 // The normals of some corners taken off, and how many they were.
-#[derive(Drop)]
+#[derive(Clone, Copy)]
 pub struct Tally {
     pub sum: Point,
     pub seen: usize,
@@ -161,7 +163,7 @@ pub fn side(coords: &[f32], face: &[u32], i: usize) -> f32
     d.mag()
 }
 
-#[derive(Drop)]
+#[derive(Clone, Copy)]
 pub struct Sides {
     pub long: f32,
     pub short: f32,

@@ -1,5 +1,7 @@
 // Numbers 10 and 11 of the table: a vertex in fewer than three faces, and one whose faces form more than one fan.
 
+#![tactic(auto)]
+
 ghost use Rattle.std.specs.Prelude.{◌≡◌, ◌<◌, ◌≤◌, length};
 ghost use Rattle.slices.specs.First.{first};
 ghost use Rattle.mesh.specs.Corners.{Paired};

@@ -1,5 +1,7 @@
 // Steps given as words, four a step, for callers that have no enums: what they stand for, and the steps of a panel file, read and written.
 
+#![tactic(auto)]
+
 ghost use Rattle.std.specs.Prelude.{◌≡◌, cond, ◌+◌, ◌*◌, ◌≤◌, min, length};
 ghost use Rattle.std.proofs.lemmas.List.Edits.{sets};
 ghost use Rattle.slices.specs.First.{first};

@@ -1,1 +1,3 @@
 // What proofs by hand of functions that hand their slices on share (proofs/Handed.antt). It has no code.
+
+#![tactic(auto)]

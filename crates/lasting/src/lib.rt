@@ -1,3 +1,5 @@
 // Closed stays closed: demand 3, said and proved over what the operators answer. All of it is in specs/.
 
+#![tactic(auto)]
+
 pub fn nothing() {}

@@ -1,5 +1,7 @@
 // The recipe with a ledger that is a lent run of row records: its second form, lent by a caller and with a ledger of its own.
 
+#![tactic(auto)]
+
 ghost use Rattle.std.specs.Prelude.{◌≡◌, ◌<◌, ◌≤◌, length, take, get_or};
 ghost use Rattle.slices.specs.Lists.{over};
 ghost use Rattle.steps.specs.Steps.{mesh, room};

@@ -1,5 +1,7 @@
 // The lines of a report, written into lent bytes: a line a step that is done, and what was refused.
 
+#![tactic(auto)]
+
 ghost use Rattle.std.specs.Prelude.{◌≡◌, ◌+◌, ◌*◌, ◌≤◌};
 ghost use Rattle.text.specs.Text.{Put};
 ghost use Rattle.lines.specs.Lines.{number_then, whole_then, step_line, refusal, end_line, file_line};

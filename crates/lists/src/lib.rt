@@ -1,5 +1,7 @@
 // A list of operators that document 01 names, as a run of its steps.
 
+#![tactic(auto)]
+
 ghost use Rattle.steps.specs.Steps.{mesh, room};
 ghost use Rattle.named.specs.Named.{masked, list_masks};
 ghost use Rattle.lists.specs.Lists.{list_trail, Listed};

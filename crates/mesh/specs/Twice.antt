@@ -51,9 +51,9 @@ any-no p i q = go (any p i) refl
         le-ltb (first p (i + 1)) (i + 1) (le_of_eq (none p (i + 1) (below_more (λ k. p k ≡ false) i (nowhere p i (ltb-false _ _ e)) q)))
 
 -- ---- the window of a number
-pub in_window : (low w x : ℕ) → low ≤ x → ltb (x - low) w ≡ in_window low w x
+pub above-window : (low w x : ℕ) → low ≤ x → ltb (x - low) w ≡ in_window low w x
 unfolding in_window
-in_window low w x h = rw (le-leb low x h)
+above-window low w x h = rw (le-leb low x h)
 
 pub below-window : (low w x : ℕ) → x < low → false ≡ in_window low w x
 unfolding in_window
@@ -62,7 +62,7 @@ below-window low w x h = rw (lt-leb low x h)
 window-holds : (low w d : ℕ) → d < w → in_window low w (low + d) ≡ true
 window-holds low w d h =
     let e : low + d - low ≡ d = omega arith in
-    sym (in_window low w (low + d) (omega arith)) ∙ lt-ltb (low + d - low) w (omega arith)
+    sym (above-window low w (low + d) (omega arith)) ∙ lt-ltb (low + d - low) w (omega arith)
 
 pub window-from : (low w x : ℕ) → in_window low w x ≡ true → (low ≤ x) × (x - low < w)
 unfolding in_window
@@ -147,7 +147,7 @@ unseen-more l low w u e i h z = ⊎_elim (λ a. u i h a) here (lt-or-le (get_or 
     here : low ≤ get_or l i 0 → seen l i ≡ false
     here a =
         let x : ℕ = get_or l i 0 in
-        let t : in_window low w x ≡ true = sym (in_window low w x a) ∙ lt-ltb (x - low) w (omega (arith, z, a)) in
+        let t : in_window low w x ≡ true = sym (above-window low w x a) ∙ lt-ltb (x - low) w (omega (arith, z, a)) in
         rw t at (nowhere (again low w l) (length l) (ltb-false _ _ e) i h)
 
 pub unseen-all : (l : List ℕ) (low v : ℕ) → Unseen l low → Inside l v → v ≤ low → false ≡ any (seen l) (length l)

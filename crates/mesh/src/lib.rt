@@ -1,5 +1,7 @@
 // The mesh: its check by the refusal table, and its corners.
 
+#![tactic(auto)]
+
 ghost use Rattle.std.specs.Prelude.{◌≡◌, ◌<◌, ◌≤◌, length};
 ghost use Rattle.slices.specs.First.{first, any, count, is_at};
 ghost use Rattle.mesh.specs.Mesh.{faces, pair_of, turned_of, ordered_of, same_pair, next_in, face_after, window, window_is, mate, face_of, prev_in, turn, next, prev};
@@ -10,7 +12,7 @@ ghost use Rattle.mesh.specs.Shape.{Shaped, In, Full, Limited};
 ghost use Rattle.mesh.specs.Tests.{falls, wrong_offsets, wrong_shape, too_many, short, outside, seen, repeats, met, alone, limit, verdict, tests, size_tests, face_tests, edge_tests, faces_at};
 
 // What the table says: nothing is refused, or a number and its place.
-#[derive(Drop)]
+#[derive(Clone, Copy)]
 pub enum Verdict {
     Good,
     Bad { number: u32, place: u32 },

@@ -1,5 +1,7 @@
 // The ten lists of operators that document 01 names: their steps, how many these are, and whether a list takes arities of its own.
 
+#![tactic(auto)]
+
 ghost use Rattle.std.specs.Prelude.{◌≡◌, [], ◌∷◌, length};
 ghost use Rattle.steps.specs.declared.Step.TheVariants.{Dual};
 ghost use Rattle.named.specs.Named.{list_steps, sixteen, defaulted};
@@ -8,7 +10,7 @@ use operators::Number;
 use steps::Step;
 
 // With its ratio, its height, or both in this order.
-#[derive(Drop)]
+#[derive(Clone, Copy)]
 pub enum NamedList {
     Bevel(Number, Number),
     Expand(Number),

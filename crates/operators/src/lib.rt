@@ -1,5 +1,7 @@
 // The eleven operators: each a plan, its numbers and a thin public function.
 
+#![tactic(auto)]
+
 mod numbers;
 
 ghost use Rattle.std.specs.Prelude.{length};
@@ -11,7 +13,7 @@ ghost use Rattle.operators.specs.Operators.{reverse_outcome, reflect_outcome, tr
 use numbers::{check_numbers, height_of, quinto_height, ratio_of};
 
 // A number that may be absent.
-#[derive(Drop)]
+#[derive(Clone, Copy)]
 pub enum Number {
     Absent,
     Given(f32),

@@ -1,5 +1,7 @@
 // The panel file's reader: one pass that checks the whole file, then one that writes what it holds.
 
+#![tactic(auto)]
+
 ghost use Rattle.std.specs.Prelude.{◌≡◌, ◌+◌, ◌*◌, ◌≤◌, length};
 ghost use Rattle.std.proofs.lemmas.List.Edits.{sets};
 ghost use Rattle.slices.specs.Lists.{over};
@@ -12,7 +14,7 @@ use parts::Part;
 use steps::Step;
 
 // What reading a file comes to: how much it holds, or a refusal.
-#[derive(Drop)]
+#[derive(Clone, Copy)]
 pub enum Filed {
     Fine {
         steps: u32,

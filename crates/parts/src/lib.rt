@@ -1,5 +1,7 @@
 // The parts of a panel file, checked one by one: counts, steps, items of one size, faces; the step that four words stand for.
 
+#![tactic(auto)]
+
 ghost use Rattle.std.specs.Prelude.{◌≡◌, ◌+◌, ◌-◌, ◌*◌, ◌<◌, ◌≤◌};
 ghost use Rattle.parts.specs.StepWords.{takes_ratio, takes_height, good_number, good_step, number_of, step_of, step_with};
 ghost use Rattle.parts.specs.Parts.{count_at, step_says, whole_says, items, section, faces};
@@ -8,7 +10,7 @@ use operators::Number;
 use steps::Step;
 
 // What a part of a file comes to: a number that later parts go by, or the end of reading.
-#[derive(Drop)]
+#[derive(Clone, Copy)]
 pub enum Part {
     Has(u32),
     Stops { number: u32, place: u32 },

@@ -1,5 +1,7 @@
 // Which faces an operator picks: by arity, by number, by shape.
 
+#![tactic(auto)]
+
 ghost use Rattle.std.specs.Prelude.{◌≡◌, true, cond, ◌<◌, ◌≤◌, length};
 ghost use Rattle.slices.specs.First.{count};
 ghost use Rattle.faces.specs.Face.{InReach};
@@ -9,7 +11,7 @@ ghost use Rattle.mesh.specs.Edges.{Faced};
 ghost use Rattle.picks.specs.Picks.{allows, picked};
 
 // Which of the three masks are given: a list of arities, a list of face numbers, regular faces only.
-#[derive(Drop)]
+#[derive(Clone, Copy)]
 pub struct Mask {
     pub arities: bool,
     pub numbers: bool,

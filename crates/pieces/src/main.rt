@@ -1,5 +1,7 @@
 // The bench pieces about refusals: a line a case with its name, the number and the place that the check answers.
 
+#![tactic(auto)]
+
 use edges::Listing;
 use libc::STDOUT_FILENO;
 

@@ -1,5 +1,7 @@
 // The plans of the operators, made of slots and sections.
 
+#![tactic(auto)]
+
 ghost use Rattle.std.specs.Prelude.{◌≡◌};
 ghost use Rattle.plans.specs.Plans.{reverse_plan, reflect_plan, triangulate_plan, ambo_plan, dual_plan, kis_plan, chamfer_plan, gyro_plan, propellor_plan, whirl_plan, quinto_plan};
 

@@ -1,11 +1,13 @@
 // Points by value, and the finite test.
 
+#![tactic(auto)]
+
 ghost use Rattle.std.specs.Prelude.{◌≡◌};
 ghost use Rattle.point.specs.Vector.{zero_p, add_p, sub_p, scale_p, div_p, dot_p, cross_p, mag_sq_p, mag_p, normalized_p, orthogonal_p, clamp_f};
 ghost use Rattle.std.specs.Float.Ieee.Scale.{finite};
 ghost use Rattle.point.specs.Finite.{first_bad};
 
-#[derive(Drop)]
+#[derive(Clone, Copy)]
 pub struct Point {
     pub x: f32,
     pub y: f32,

@@ -1,6 +1,8 @@
 // Plays cases back: reads them from standard input and prints a line of answer for each.
 // docs/REPLAY.md says what a case is.
 
+#![tactic(auto)]
+
 mod calls;
 mod checks;
 mod leaves;

@@ -1,5 +1,7 @@
 // The program `report`, on the files that its arguments name or on standard input.
 
+#![tactic(auto)]
+
 fn main() {
     command::run();
 }

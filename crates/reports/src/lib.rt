@@ -1,5 +1,7 @@
 // The report of a panel file, bytes in, bytes out: the file is read, its recipe is run and its lines are written.
 
+#![tactic(auto)]
+
 ghost use Rattle.std.specs.Prelude.{◌≡◌, ◌≤◌};
 ghost use Rattle.io.specs.Counts.{IsPrefixLen};
 ghost use Rattle.steps.specs.Steps.{mesh};

@@ -1,6 +1,8 @@
 // Plays lists, recipes and files back: reads cases from standard input and prints a line of answer for each.
 // docs/REPLAY.md says what a case is.
 
+#![tactic(auto)]
+
 mod files;
 mod reading;
 

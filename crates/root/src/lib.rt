@@ -1,5 +1,7 @@
 // The square root of an f32 by whole numbers: on bit patterns and on floats.
 
+#![tactic(auto)]
+
 ghost use Rattle.std.specs.Prelude.{◌≡◌, ◌+◌, ◌*◌, ◌<◌, ◌≤◌, ◌^◌};
 ghost use Rattle.root.specs.Sqrt.{sqrt_n, IsRoot, root_bits, root32, root_of};
 

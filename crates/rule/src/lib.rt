@@ -1,5 +1,7 @@
 // Operators as rules: slots, sections, and the writers of a face.
 
+#![tactic(auto)]
+
 ghost use Rattle.std.specs.Prelude.{◌≡◌, cond, [], ◌∷◌, ◌+◌, ◌<◌, ◌≤◌, length, take};
 ghost use Rattle.faces.specs.Face.{InReach};
 ghost use Rattle.mesh.specs.Mesh as Mesh;
@@ -13,7 +15,7 @@ ghost use Rattle.rule.specs.Wrote.{Wrote, Room, Space, Ended};
 ghost use Rattle.rule.specs.Triangles.{least};
 
 // Where a slot of a rule looks from a corner.
-#[derive(Drop)]
+#[derive(Clone, Copy)]
 pub enum Move {
     Here,
     Next,
@@ -25,7 +27,7 @@ pub enum Move {
 
 // Which vertex a slot of a rule names there: the old one, or the new one of the directed edge that starts there, of the edge, of the
 // corner, or of its face; or the one new vertex of the face at hand.
-#[derive(Drop)]
+#[derive(Clone, Copy)]
 pub enum Kind {
     Old,
     Dir,
@@ -36,14 +38,14 @@ pub enum Kind {
 }
 
 // What a rule puts at a place of a new face.
-#[derive(Drop)]
+#[derive(Clone, Copy)]
 pub struct Slot {
     pub kind: Kind,
     pub at: Move,
 }
 
 // The number of the first new vertex of each kind.
-#[derive(Drop)]
+#[derive(Clone, Copy)]
 pub struct Bases {
     pub dir: u32,
     pub edge: u32,
@@ -52,7 +54,7 @@ pub struct Bases {
 }
 
 // A place in the output: how many offsets stand before it, and how many corners.
-#[derive(Drop)]
+#[derive(Clone, Copy)]
 pub struct At {
     pub offs: usize,
     pub cors: usize,
@@ -61,7 +63,7 @@ pub struct At {
 // What the faces of a section are made at: nothing; each corner; each corner whose window ascends; each face, of one slot at its
 // corners; each vertex, of one slot at the corners round it; each face turned over; each face cut into triangles, by the shorter
 // diagonal or the longer; each face, a picked one split at its corners.
-#[derive(Drop)]
+#[derive(Clone, Copy)]
 pub enum Shape {
     Nothing,
     Corners,
@@ -74,7 +76,7 @@ pub enum Shape {
 }
 
 // A section of faces: a shape and its first n slots.
-#[derive(Drop)]
+#[derive(Clone, Copy)]
 pub struct Section {
     pub shape: Shape,
     pub slots: [Slot; 6],
@@ -82,7 +84,7 @@ pub struct Section {
 }
 
 // How a face is cut into triangles: by a fan from its first corner, a quadrilateral by the other diagonal, a pentagon.
-#[derive(Drop)]
+#[derive(Clone, Copy)]
 pub enum Cut {
     Fan,
     Other,
@@ -90,7 +92,7 @@ pub enum Cut {
 }
 
 // How many faces and corners.
-#[derive(Drop)]
+#[derive(Clone, Copy)]
 pub struct Size {
     pub faces: usize,
     pub corners: usize,

@@ -1,5 +1,7 @@
 // A list of steps, run through two lent work meshes.
 
+#![tactic(auto)]
+
 ghost use Rattle.steps.specs.Steps.{masks, mesh, room};
 ghost use Rattle.chain.specs.Trail.{Zero};
 ghost use Rattle.chain.specs.Chained.{Chained};

@@ -1,5 +1,7 @@
 // The codes 31 to 41: the ten lists, and a recipe with its ledger.
 
+#![tactic(auto)]
+
 pub mod more;
 pub mod zeros;
 

@@ -10,7 +10,7 @@ use slices::wide;
 use steps::Step;
 
 // The lengths of both work meshes, the rows of the ledger, the steps, and the bytes of the file.
-#[derive(Drop)]
+#[derive(Clone, Copy)]
 pub struct More {
     pub ao: usize,
     pub ac: usize,

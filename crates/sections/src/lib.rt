@@ -1,5 +1,7 @@
 // A section of faces: how large it is, and its faces written.
 
+#![tactic(auto)]
+
 ghost use Rattle.std.specs.Prelude.{◌≡◌, cond, true, false, [], ◌∷◌, ◌/◌, ◌<◌, ◌≤◌, length, take};
 ghost use Rattle.mesh.specs.Mesh.{faces, arity};
 ghost use Rattle.mesh.specs.Edges.{Sound, Faced};

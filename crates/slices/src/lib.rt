@@ -1,4 +1,5 @@
 // Lent slices: reading a number, looking for one, copying, clearing.
+#![tactic(auto)]
 
 ghost use Rattle.std.specs.Prelude.{◌≡◌, ◌+◌, ◌<◌, ◌≤◌, length, get_or, replicate};
 ghost use Rattle.std.proofs.lemmas.List.Edits.{sets};

@@ -1,12 +1,14 @@
 // What crosses the boundary to C and Rust: answers as numbers by value, a number that may be absent as a flag and a value, the masks as flags.
 
+#![tactic(auto)]
+
 ghost use Rattle.std.specs.Prelude.{◌≡◌, [], ◌∷◌};
 ghost use Rattle.engine.specs.Result.{words_of};
 ghost use Rattle.spelling.specs.Words.{spelled, verdict_words, listing_words, filing, filed_words, writing, written_words, optional, masked};
 
 // An answer: number, place and step of a refusal, or the counts V, E, F; what is not named is 0.
 #[repr(C)]
-#[derive(Drop)]
+#[derive(Clone, Copy)]
 pub struct Words {
     pub number: u32,
     pub place: u32,
@@ -18,7 +20,7 @@ pub struct Words {
 
 // What a panel file holds, or why it is refused.
 #[repr(C)]
-#[derive(Drop)]
+#[derive(Clone, Copy)]
 pub struct Filing {
     pub number: u32,
     pub place: u32,
@@ -30,7 +32,7 @@ pub struct Filing {
 
 // How many bytes were written of a panel file, or why it is refused.
 #[repr(C)]
-#[derive(Drop)]
+#[derive(Clone, Copy)]
 pub struct Writing {
     pub number: u32,
     pub place: u32,

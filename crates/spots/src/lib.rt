@@ -1,5 +1,7 @@
 // New points: what an operator makes of the old positions, of a face, of a corner and of an edge, by sections.
 
+#![tactic(auto)]
+
 ghost use Rattle.std.specs.Prelude.{◌≡◌, [], ◌++◌, cond, ◌+◌, ◌-◌, ◌*◌, ◌/◌, ◌<◌, ◌≤◌, length};
 ghost use Rattle.faces.specs.Face.{coords_of, InReach};
 ghost use Rattle.point.specs.Finite.{first_bad};
@@ -13,7 +15,7 @@ ghost use Rattle.spots.specs.Spots.{list_of, Holds};
 ghost use Rattle.spots.specs.Olds.{olds_to};
 
 // What becomes of an old position: kept, times 1.5 of the ratio, or with y turned round.
-#[derive(Drop)]
+#[derive(Clone, Copy)]
 pub enum Change {
     Kept,
     Scaled,
@@ -21,7 +23,7 @@ pub enum Change {
 }
 
 // A face's new point: its centroid, that raised along the normal, or the centroid's direction raised along the normal.
-#[derive(Drop)]
+#[derive(Clone, Copy)]
 pub enum Spot {
     Centre,
     Apex,
@@ -30,7 +32,7 @@ pub enum Spot {
 
 // A corner's new point: on the way to the centroid; on the way from a point of its edge to the raised centroid; or the
 // third of its edge's ends and the centroid.
-#[derive(Drop)]
+#[derive(Clone, Copy)]
 pub enum Tip {
     Inset,
     Swirl,
@@ -38,14 +40,14 @@ pub enum Tip {
 }
 
 // An edge's one new point: between its ends by the ratio, or their sum times the height.
-#[derive(Drop)]
+#[derive(Clone, Copy)]
 pub enum Middle {
     Split,
     Sum,
 }
 
 // A section of points: none; one a position, a face, a picked face, a corner; two an edge; one an edge.
-#[derive(Drop)]
+#[derive(Clone, Copy)]
 pub enum Points {
     Nothing,
     Olds(Change),
@@ -57,7 +59,7 @@ pub enum Points {
 }
 
 // What a section has at one place: the first n of two points.
-#[derive(Drop)]
+#[derive(Clone, Copy)]
 pub struct Spots {
     pub n: usize,
     pub p: point::Point,

@@ -1,5 +1,7 @@
 // The steps of a list from the input on: the first one, and the recursion over the others.
 
+#![tactic(auto)]
+
 ghost use Rattle.std.specs.Prelude.{◌<◌, ◌≤◌, take};
 ghost use Rattle.steps.specs.Steps.{masks, mesh, room};
 ghost use Rattle.chain.specs.Trail.{trail};

@@ -1,5 +1,7 @@
 // A step: an operator carrying just the numbers that it takes. Its code, and the call of it.
 
+#![tactic(auto)]
+
 ghost use Rattle.std.specs.Prelude.{◌≡◌, length};
 ghost use Rattle.engine.specs.Result.{Came};
 ghost use Rattle.steps.specs.Steps.{code_of, step_outcome};
@@ -8,7 +10,7 @@ use engine::Answer;
 use operators::Number;
 use picks::Mask;
 
-#[derive(Drop)]
+#[derive(Clone, Copy)]
 pub enum Step {
     Ambo(Number),
     Chamfer(Number),

@@ -1,6 +1,8 @@
 // Text into a lent run of bytes. What lies past its end is not written; the answer says where the
 // text ends, or would.
 
+#![tactic(auto)]
+
 ghost use Rattle.std.specs.Prelude.{[], ◌∷◌, ◌+◌, ◌^◌, ◌<◌, ◌≤◌, length};
 ghost use Rattle.text.specs.Text.{decimal, Put};
 

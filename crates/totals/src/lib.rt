@@ -1,5 +1,7 @@
 // What a report says of a mesh: X and H as whole numbers, and the answer of each step of a recipe.
 
+#![tactic(auto)]
+
 ghost use Rattle.std.specs.Prelude.{◌≡◌};
 ghost use Rattle.totals.specs.Totals.{difference, half_of, euler_of, handles_of, answer_at};
 
@@ -7,7 +9,7 @@ use chain::Ran;
 use engine::{Answer, Counts};
 
 // A whole number by its sign and size; 0 has no sign.
-#[derive(Drop)]
+#[derive(Clone, Copy)]
 pub struct Whole {
     pub minus: bool,
     pub size: u64,

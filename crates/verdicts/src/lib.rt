@@ -1,5 +1,7 @@
 // A verdict of the refusal table as its number and its place.
 
+#![tactic(auto)]
+
 ghost use Rattle.std.specs.Prelude.{◌≡◌};
 ghost use Rattle.mesh.specs.Tests.{number_of, place_of};
 

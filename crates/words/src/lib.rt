@@ -1,5 +1,7 @@
 // Words of four bytes, the lowest first, in a run of bytes: reading and writing them; the floats that some of them stand for.
 
+#![tactic(auto)]
+
 ghost use Rattle.std.specs.Prelude.{◌≡◌, ◌+◌, ◌<◌, ◌≤◌, length};
 ghost use Rattle.std.proofs.lemmas.List.Edits.{sets};
 ghost use Rattle.std.specs.Float.Ieee.{of_bits, to_bits};

@@ -1,5 +1,7 @@
 // The panel file's writer: the answer is settled first, then the bytes are written from front to back.
 
+#![tactic(auto)]
+
 ghost use Rattle.std.specs.Prelude.{◌≡◌, ◌+◌, ◌*◌, ◌<◌, ◌≤◌, [], ◌∷◌, length, take};
 ghost use Rattle.std.proofs.lemmas.List.Edits.{sets};
 ghost use Rattle.mesh.specs.Mesh.{faces, faces_of};
@@ -13,7 +15,7 @@ use operators::Number;
 use steps::Step;
 
 // What writing a file comes to: how many bytes, or a refusal.
-#[derive(Drop)]
+#[derive(Clone, Copy)]
 pub enum Written {
     Done(u32),
     Refused { number: u32, place: u32 },

@@ -1,0 +1,12 @@
+use Prim.Native.Nat.{◌-◌}
+use lib.ListN.{length}
+use Rattle.slices.specs.First.{Searched}
+use Rattle.mesh.specs.Tests.{met}
+use Rattle.mesh.specs.Shape.{At}
+use Rattle.mesh.proofs.met_at.Given as goal
+
+abbrev pub invariant-loop-c : goal.invariant-loop-c
+invariant-loop-c l = Searched (met l.offsets l.corners) (length l.corners) l.c × At l.offsets (length l.corners) l.f l.c
+
+abbrev pub decreases-loop-c : goal.decreases-loop-c
+decreases-loop-c l = length l.corners - l.c
