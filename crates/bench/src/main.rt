@@ -3,8 +3,10 @@
 #![tactic(auto)]
 
 use engine::Answer;
-use libc::STDOUT_FILENO;
 use operators::Number;
+
+// The descriptor of standard output.
+const STDOUT_FILENO: i32 = 1;
 
 // ---- T, the pillow of two triangles on its first positions, and two Ts that share vertex 0
 

@@ -4,7 +4,8 @@ ghost use Rattle.std.specs.Prelude.{◌≡◌, ◌+◌, ◌*◌, ◌<◌, ◌≤
 ghost use Rattle.std.specs.Float.{binary32};
 ghost use Rattle.cases.specs.Input.{le32, word_at};
 
-use libc::STDIN_FILENO;
+// The descriptor of standard input.
+const STDIN_FILENO: i32 = 0;
 
 // What is read at once: 1,024 words.
 pub type Block = [u8; 4096];

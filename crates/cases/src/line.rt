@@ -6,8 +6,10 @@ ghost use Rattle.std.specs.Prelude.{◌<◌, ◌≤◌, length};
 
 use crate::header::Header;
 use crate::lists::{Coords, Numbers};
-use libc::STDOUT_FILENO;
 use point::Point;
+
+// The descriptor of standard output.
+const STDOUT_FILENO: i32 = 1;
 
 pub type Text = [u8; 65536];
 

@@ -3,7 +3,9 @@
 #![tactic(auto)]
 
 use edges::Listing;
-use libc::STDOUT_FILENO;
+
+// The descriptor of standard output.
+const STDOUT_FILENO: i32 = 1;
 
 // ---- T: faces [0,1,2], [0,3,1], [0,2,3], [1,3,2]
 
