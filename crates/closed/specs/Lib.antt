@@ -6,10 +6,4 @@ pub mod Layout
 pub mod Net
 pub mod Rule
 pub mod Parts
-pub mod Gyro
 pub mod Uniform
-pub mod Propellor
-pub mod Whirl
-pub mod Quinto
-pub mod Chamfer
-pub mod Kis

@@ -8,7 +8,7 @@ use Rattle.steps.specs.declared.Step.{Step}
 use Rattle.chain.specs.Trail.{Trail, row_of, lastly, onward, trail}
 use Rattle.chain.specs.declared.Row.{Row}
 use Rattle.lasting.specs.Demand3.{steady, positions_in, edges_in, faces_in, Passes, SameX, Kept, excused, Lasts}
-use Rattle.lasting.specs.Proof.{one-step}
+use Rattle.lasting.proofs.Demand3Proof.{one-step}
 
 -- ---- what is said of a list of steps on the mesh w
 

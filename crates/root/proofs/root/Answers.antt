@@ -3,7 +3,7 @@ use lib.Dec.{T}
 use lib.Ieee.{binary32, of_bits, to_bits}
 use lib.Ieee.Compare.{differs_from_itself}
 use Rattle.root.specs.Sqrt.{root32}
-use Rattle.root.specs.Floats.{not-nan, nan-made, root32-at, root32-nan, root-number}
+use Rattle.root.proofs.Floats.{not-nan, nan-made, root32-at, root32-nan, root-number}
 use Rattle.root.proofs.root.Goals as goal
 
 pub returns-then-x : goal.returns-then-x

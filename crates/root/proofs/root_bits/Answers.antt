@@ -3,7 +3,7 @@ use Prim.Native.Nat.{ℕ, ◌-◌}
 use native.Mathlib.Omega.{arith}
 use lib.Count.{count_leading_zeros}
 use Rattle.root.specs.Sqrt.{root_of}
-use Rattle.root.specs.Laws.{placed, place-exact, root_pos-low, root_pos-high, bits-zero, bits-minus, bits_positive, bits-infinite, bits-rest, both}
+use Rattle.root.proofs.Laws.{placed, place-exact, root_pos-low, root_pos-high, bits-zero, bits-minus, bits_positive, bits-infinite, bits-rest, both}
 use Rattle.root.proofs.root_bits.Goals as goal
 
 pub returns-then-b-eq0 : goal.returns-then-b-eq0

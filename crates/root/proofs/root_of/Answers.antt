@@ -2,7 +2,7 @@ use mathlib.Core.Path.{◌≡◌, ap, ◌∙◌}
 use Prim.Native.Nat.{ℕ, ◌+◌, ◌*◌, ◌/◌, ◌%◌, ◌^◌, ◌≤◌, ◌<◌}
 use native.Mathlib.Omega.{arith}
 use Rattle.root.specs.Sqrt.{sqrt_n, root_of}
-use Rattle.root.specs.Laws.{big-exact}
+use Rattle.root.proofs.Laws.{big-exact}
 use Rattle.root.proofs.root_of.Goals as goal
 
 finite : (t s : ℕ) → t ≤ 278 → s < 2 ^ 26 → (t / 2 + 51) * 8388608 + (s + 1) / 2 < 0x7f80_0000

@@ -2,7 +2,7 @@ use mathlib.Core.Path.{sym, ap, ◌∙◌, subst}
 use lib.Dec.{T}
 use lib.Ieee.{binary32, to_bits}
 use lib.Ieee.Compare.{differs_from_itself}
-use Rattle.root.specs.Floats.{not-nan}
+use Rattle.root.proofs.Floats.{not-nan}
 use Rattle.words.specs.Words.{nan-bits}
 use Rattle.words.proofs.bits_of.Goals as goal
 

@@ -1,5 +1,5 @@
 use mathlib.Core.Path.{sym, ◌∙◌}
-use Rattle.root.specs.Floats.{nan-made}
+use Rattle.root.proofs.Floats.{nan-made}
 use Rattle.words.specs.Words.{no_nan, is_nan}
 use Rattle.words.proofs.float_of.Goals as goal
 

@@ -1,5 +1,5 @@
 use Rattle.std.proofs.Common.{sym, ◌∙◌, rules}
-use Rattle.root.specs.Floats.{nan-made}
+use Rattle.root.proofs.Floats.{nan-made}
 use Rattle.cases.specs.Input.{no_nan, is_nan}
 use Rattle.cases.proofs.input.float_of.Statement.{statement}
 use Rattle.cases.proofs.input.float_of.Tie as tie

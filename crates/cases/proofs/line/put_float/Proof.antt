@@ -1,4 +1,4 @@
-use Rattle.root.specs.Floats.{not-nan}
+use Rattle.root.proofs.Floats.{not-nan}
 use Rattle.std.proofs.Common.{rules}
 use Rattle.cases.proofs.line.put_float.Statement.{statement}
 use Rattle.cases.proofs.line.put_float.Tie as tie

@@ -1,4 +1,4 @@
-use Rattle.root.specs.Floats.{not-nan}
+use Rattle.root.proofs.Floats.{not-nan}
 use borrow.Author.Rules.{rules}
 use Rattle.runs.proofs.zeros.is_zero.Statement.{statement}
 use Rattle.runs.proofs.zeros.is_zero.Tie as tie

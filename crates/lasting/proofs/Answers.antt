@@ -13,7 +13,7 @@ use Rattle.steps.specs.Steps.{Mesh, Masks, mesh, masks, room, step_outcome}
 use Rattle.steps.specs.declared.Step.{Step}
 use Rattle.lasting.specs.Demand3.{steady, faces_in, Passes, Lasts, front, Answers}
 use Rattle.lasting.specs.Again.{shell}
-use Rattle.lasting.specs.Proof.{one-step}
+use Rattle.lasting.proofs.Demand3Proof.{one-step}
 
 -- ---- a mesh that passes, written over lent slices, stands at their front
 front-is :

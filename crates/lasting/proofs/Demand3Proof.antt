@@ -14,15 +14,15 @@ use Rattle.steps.specs.declared.Step.{Step}
 use Rattle.steps.specs.declared.Step.TheVariants.{Ambo, Chamfer, Dual, Gyro, Kis, Propellor, Quinto, Reflect, Reverse, Whirl, Triangulate}
 use Rattle.closed.specs.Keeps.{Shell}
 use Rattle.lasting.specs.Demand3.{steady, Passes, edges_in, corners_picked, SameX, Lasts, Turn, turn_on, all_steady, After, Lasting, Demand3, Into, Reached}
-use Rattle.closed.specs.Chamfer.{chamfer-keeps}
-use Rattle.closed.specs.Gyro.{gyro-keeps}
-use Rattle.closed.specs.Propellor.{propellor-keeps}
-use Rattle.closed.specs.Whirl.{whirl-keeps}
-use Rattle.closed.specs.Quinto.{quinto-keeps}
-use Rattle.closed.specs.Kis.{kis-keeps}
+use Rattle.closed.proofs.Chamfer.{chamfer-keeps}
+use Rattle.closed.proofs.Gyro.{gyro-keeps}
+use Rattle.closed.proofs.Propellor.{propellor-keeps}
+use Rattle.closed.proofs.Whirl.{whirl-keeps}
+use Rattle.closed.proofs.Quinto.{quinto-keeps}
+use Rattle.closed.proofs.Kis.{kis-keeps}
 use Rattle.lasting.specs.Long.{chamfer-long, gyro-long, propellor-long, whirl-long, quinto-long, kis-long}
 use Rattle.lasting.specs.Again.{shell}
-use Rattle.lasting.specs.Table.{grown, edges-half, call-lasts}
+use Rattle.lasting.proofs.Table.{grown, edges-half, call-lasts}
 
 -- ---- one step
 module _ (m : Masks) (w : Mesh) (r : Room) (p : Passes w) where

@@ -1,0 +1,4 @@
+pub mod Table
+pub mod Demand3Proof
+pub mod Answers
+pub mod Pieces
