@@ -19,9 +19,7 @@ pub loop-j-preserved : goal.loop-j-preserved
 loop-j-preserved c = (
   onward c.loop-j.invariant.0 (omega arith) (ne_eqb _ _ (λ e. c.if-c-start.false ((c.turn_at-c.ensures ∙ rw c.loop-j.invariant.1.0 (around-more _ _ _ _)) ∙ e))),
   ((c.turn_at-c.ensures ∙ rw c.loop-j.invariant.1.0 (around-more _ _ _ _)), rw c.turn_at-c.ensures (turn-lt _ _ c.requires.shaped c.requires.paired _ c.loop-j.invariant.1.1)),
-
 )
-
 
 pub returns : goal.returns
 returns c = ended c.loop-j.invariant.0 (omega arith)

@@ -21,9 +21,7 @@ pub loop-c-preserved : goal.loop-c-preserved
 loop-c-preserved c = (
   onward c.loop-c.invariant.0 (omega arith) (sym c.alone_in.ensures ∙ c.if-alone_in.false),
   rw c.face_after-f.ensures (at_after _ _ c.requires.shaped c.requires.full _ _ (c.loop-c.invariant.1 (omega arith))),
-
 )
-
 
 pub returns : goal.returns
 returns c = ended c.loop-c.invariant.0 (omega arith)

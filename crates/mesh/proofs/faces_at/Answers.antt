@@ -14,8 +14,9 @@ pub loop-c-preserved : goal.loop-c-preserved
 loop-c-preserved c =
     let i = c.loop-c.invariant in
     elim c.if-corners-c.branch [
-      then-corners-c w ↦ (omega arith, (omega arith, w.m-is ∙ count_yes _ _ _ i.1.1 (eq-eqb _ _ w.if-corners-c.true)))
-    | else-corners-c w ↦ (omega arith, (omega arith, w.m-is ∙ count_no _ _ _ i.1.1 (ne_eqb _ _ w.if-corners-c.false))) ]
+      | then-corners-c w ↦ (omega arith, (omega arith, w.m-is ∙ count_yes _ _ _ i.1.1 (eq-eqb _ _ w.if-corners-c.true)))
+      | else-corners-c w ↦ (omega arith, (omega arith, w.m-is ∙ count_no _ _ _ i.1.1 (ne_eqb _ _ w.if-corners-c.false)))
+    ]
 
 pub returns : goal.returns
 returns c =

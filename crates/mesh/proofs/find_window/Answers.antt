@@ -27,11 +27,10 @@ pub loop-c-smaller-then-c-stop : goal.loop-c-smaller-then-c-stop
 loop-c-smaller-then-c-stop c = let a = c.starts_at-c.ensures.ahead in let t = c.if-c-stop.true in omega (arith, a, t)
 
 pub loop-c-preserved-then-c-stop : goal.loop-c-preserved-then-c-stop
-loop-c-preserved-then-c-stop c =
-    (
-      onward (skips c.args.offsets.now c.args.corners.now c.args.e c.loop-c.invariant.0 c.starts_at-c.ensures) (omega (arith, c.if-c-stop.true)) (sym c.window_is.ensures ∙ c.if-window_is.false),
-      rw c.face_on-f.ensures (behind-next _ _),
-    )
+loop-c-preserved-then-c-stop c = (
+  onward (skips c.args.offsets.now c.args.corners.now c.args.e c.loop-c.invariant.0 c.starts_at-c.ensures) (omega (arith, c.if-c-stop.true)) (sym c.window_is.ensures ∙ c.if-window_is.false),
+  rw c.face_on-f.ensures (behind-next _ _),
+)
 
 pub loop-c-smaller : goal.loop-c-smaller
 loop-c-smaller c = let t = c.loop-c-test.true in let e = c.if-c-stop.false in omega (arith, t, e)

@@ -32,8 +32,9 @@ loop-i-preserved c =
     let q = c.look-v.ensures in
     let o = c.in_window.ensures in
     elim c.if-in_window.branch [
-      then-in_window+else-marks-v w ↦ rw w.marks-is (walk-marks k (omega arith) _ q (sym w.if-in_window.true ∙ o) w.if-marks-v.false)
-    | else-in_window w ↦ rw w.marks-is (walk-over k (omega arith) _ q (sym w.if-in_window.false ∙ o)) ]
+      | then-in_window+else-marks-v w ↦ rw w.marks-is (walk-marks k (omega arith) _ q (sym w.if-in_window.true ∙ o) w.if-marks-v.false)
+      | else-in_window w ↦ rw w.marks-is (walk-over k (omega arith) _ q (sym w.if-in_window.false ∙ o))
+    ]
 
 pub shape_of-marks : goal.shape_of-marks
 shape_of-marks c = c.loop-i.invariant.long

@@ -23,8 +23,9 @@ loop-c-preserved c =
     let i = c.loop-c.invariant in
     let a = at-then _ _ s.shaped s.full _ _ _ (i.1.1.1 (omega (arith, c.requires.stop_in_bounds))) c.face_after-f.ensures in
     elim c.if-up_in.branch [
-      then-up_in w ↦ (omega arith, (omega arith, (w.m-is ∙ count_yes _ _ _ i.1.1.0 (sym c.up_in.ensures ∙ w.if-up_in.true), a)))
-    | else-up_in w ↦ (omega arith, (omega arith, (w.m-is ∙ count_no _ _ _ i.1.1.0 (sym c.up_in.ensures ∙ w.if-up_in.false), a))) ]
+      | then-up_in w ↦ (omega arith, (omega arith, (w.m-is ∙ count_yes _ _ _ i.1.1.0 (sym c.up_in.ensures ∙ w.if-up_in.true), a)))
+      | else-up_in w ↦ (omega arith, (omega arith, (w.m-is ∙ count_no _ _ _ i.1.1.0 (sym c.up_in.ensures ∙ w.if-up_in.false), a)))
+    ]
 
 pub returns : goal.returns
 returns c =

@@ -15,8 +15,9 @@ pub loop-f-preserved : goal.loop-f-preserved
 loop-f-preserved c =
     let i = c.loop-f.invariant in
     elim c.if-picks.branch [
-      then-picks w ↦ (omega arith, (omega arith, w.n-is ∙ count_yes _ _ _ i.1.1 (sym c.picks.ensures ∙ w.if-picks.true)))
-    | else-picks w ↦ (omega arith, (omega arith, w.n-is ∙ count_no _ _ _ i.1.1 (sym c.picks.ensures ∙ w.if-picks.false))) ]
+      | then-picks w ↦ (omega arith, (omega arith, w.n-is ∙ count_yes _ _ _ i.1.1 (sym c.picks.ensures ∙ w.if-picks.true)))
+      | else-picks w ↦ (omega arith, (omega arith, w.n-is ∙ count_no _ _ _ i.1.1 (sym c.picks.ensures ∙ w.if-picks.false)))
+    ]
 
 pub returns : goal.returns
 returns c =
