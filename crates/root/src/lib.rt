@@ -61,6 +61,9 @@ pub fn root_bits(b: u32) -> u32
     }
 }
 
+// The pattern of the one NaN that a root can be.
+const NAN: u32 = 0x7fc0_0000;
+
 // The square root of a float. A NaN has no pattern of its own here: it is told by `x != x`.
 pub fn root(x: f32) -> f32
     ensures { result ≡ root32 x }
@@ -69,7 +72,7 @@ pub fn root(x: f32) -> f32
         return x;
     }
     let r = root_bits(f32::to_bits(x));
-    if r == 0x7fc0_0000 {
+    if r == NAN {
         return 0.0 / 0.0;
     }
     f32::from_bits(r)

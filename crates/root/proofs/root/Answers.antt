@@ -12,11 +12,11 @@ returns-then-x c = let e = differs_from_itself c.args.x (subst T (sym c.if-x.tru
 pub float_to_bits-x : goal.float_to_bits-x
 float_to_bits-x c = not-nan c.args.x c.if-x.false
 
-pub returns-then-r-eq2143289344 : goal.returns-then-r-eq2143289344
-returns-then-r-eq2143289344 c = nan-made ∙ sym (root32-at c.args.x (sym c.root_bits-r.ensures.value ∙ c.if-r-eq2143289344.true))
+pub returns-then-r-eq-NAN : goal.returns-then-r-eq-NAN
+returns-then-r-eq-NAN c = nan-made ∙ sym (root32-at c.args.x (sym c.root_bits-r.ensures.value ∙ c.if-r-eq-NAN.true))
 
 pub float_from_bits-result : goal.float_from_bits-result
-float_from_bits-result c = root-number (to_bits binary32 c.args.x) c.root_bits-r.result c.root_bits-r.ensures.root c.if-r-eq2143289344.false
+float_from_bits-result c = root-number (to_bits binary32 c.args.x) c.root_bits-r.result c.root_bits-r.ensures.root c.if-r-eq-NAN.false
 
 pub returns : goal.returns
 unfolding root32
