@@ -32,4 +32,3 @@ pub returns : goal.returns
 returns t c =
     let most : c.args.n ≤ length c.args.steps = omega (arith, c.requires, c.well_formed.0) in
     chained-on _ _ _ _ _ _ most _ _ _ _ _ _ c.requires.more c.if-k-n.false _ _ _ c.apply-made-2.ensures c.in-Done.is c.extent_of-next.ensures c.finish-ran.ensures c.chain.ensures
-
