@@ -10,7 +10,7 @@ fn stop(message: &str) -> ! {
     exit(1);
 }
 
-/// `CROSSGLIMMER_LIB`, or where `rt staticlib exports` writes.
+/// `CROSSGLIMMER_LIB`, or where `bindings/library` writes.
 fn folder() -> PathBuf {
     let here = PathBuf::from(env::var_os("CARGO_MANIFEST_DIR").unwrap_or_default());
     env::var_os("CROSSGLIMMER_LIB").map_or_else(|| here.join("../../target/staticlib"), PathBuf::from)
@@ -27,7 +27,7 @@ fn main() {
     println!("cargo:rerun-if-changed={}", archive.display());
     if !archive.is_file() {
         stop(&format!(
-            "no {ARCHIVE} in {}: make it by `rt staticlib exports`, or set CROSSGLIMMER_LIB to its folder",
+            "no {ARCHIVE} in {}: make it by `bindings/library`, or set CROSSGLIMMER_LIB to its folder",
             folder.display()
         ));
     }

@@ -2,94 +2,149 @@
 
 #![tactic(auto)]
 
-use libc::{STDERR_FILENO, STDIN_FILENO, STDOUT_FILENO};
+ghost use Rattle.std.specs.Prelude.{◌≡◌, ◌<◌, length, take, IfOk, IfSome};
+ghost use Rattle.std.specs.Io.{ReadsAtMost};
+ghost use Rattle.std.specs.Io.KnownBytes.{Consumes, IsAtEnd};
+ghost use Rattle.reports.specs.Report.{report_of, Holds};
 
-// What came of reading: so many bytes, or a read that failed.
-#[derive(Clone, Copy)]
-enum Got {
-    Bytes(usize),
-    Failed,
-}
+use std::env::FillError;
+use std::fmt::InlineText;
+use std::io::Read;
+use std::rt::{Env, Files};
+use std::{fs, io, str};
 
-// Reads until the buffer is full or the file ends.
-fn read_front(fd: i32, buf: &mut [u8]) -> Got {
+// A longer argument is not read; the system opens no file by a name of so many bytes.
+const MOST_NAME: usize = 4096;
+
+// The system's number for a name that is too long.
+const ENAMETOOLONG: i32 = 36;
+
+// The system's number for bytes that are no text. std opens a file by text alone, which is UTF-8.
+const EILSEQ: i32 = 84;
+
+// Reads until the buffer is full or the file ends, and answers how many bytes stand at the buffer's start then.
+fn read_front<F: Read>(file: &mut F, buf: &mut [u8]) -> io::Result<usize>
+    ensures in_bounds { ReadsAtMost result buf.new }
+    ensures bytes { IfOk result (λ n. Consumes (F.remaining file.old) (F.remaining file.new) (take n buf.new)) }
+    ensures end { IfOk result (λ n. n < length buf.new → IsAtEnd (F.remaining file.new)) }
+{
     let mut done = 0;
     while done < buf.len() {
-        let got = libc::read(fd, &mut buf[done..]);
-        if got < 0 {
-            return Got::Failed;
-        }
-        let more = io::count(got, &buf[done..]);
+        let more = file.read(&mut buf[done..])?;
         if more == 0 {
-            return Got::Bytes(done);
+            return Ok(done);
         }
         done += more;
     }
-    Got::Bytes(done)
+    Ok(done)
+}
+
+// Puts the report of a whole file at the start of `text`, and answers how long it is; no more of the file is read than that takes.
+fn put_report<F: Read>(file: &mut F, text: &mut [u8; reports::MOST_TEXT]) -> io::Result<usize>
+    ensures in_bounds { ReadsAtMost result text.new }
+    ensures report { IfOk result (λ n. IfSome (F.remaining file.old) (λ bytes. Holds (report_of bytes) text.old n text.new)) }
+{
+    let mut front = [0u8; reports::MOST_BYTES];
+    let n = read_front(file, &mut front)?;
+    Ok(reports::report_front(&front, n, text))
+}
+
+// The system's words for an error, without the number that std puts behind them.
+fn reason(said: &str) -> &str {
+    match said.rsplit_once(" (os error ") {
+        Some((words, _)) => words,
+        None => said,
+    }
+}
+
+// Nothing is left to do where standard error cannot be written.
+fn say(errors: &impl Print, bytes: &[u8]) {
+    let _ = errors.write_all(bytes);
 }
 
 // What could not be done with which file, and why.
-fn fail(name: &[u8], what: &[u8]) {
-    io::write_all(STDERR_FILENO, b"report: ");
-    io::write_all(STDERR_FILENO, name);
-    os::fail(what);
+fn fail(errors: &impl Print, name: &[u8], what: &str, why: io::Error) {
+    let said = InlineText::<256>::of(why);
+    say(errors, b"report: ");
+    say(errors, name);
+    say(errors, what.as_bytes());
+    say(errors, b": ");
+    say(errors, reason(said.as_str()).as_bytes());
+    say(errors, b"\n");
 }
 
-fn print(bytes: &[u8]) {
-    if !io::write_all(STDOUT_FILENO, bytes) {
-        fail(b"standard output", b" cannot be written");
+fn print(rt: &impl Print, errors: &impl Print, bytes: &[u8]) {
+    if let Err(why) = rt.write_all(bytes) {
+        fail(errors, b"standard output", " cannot be written", why);
     }
 }
 
 // Reads what comes from an open file and prints its report.
-fn report_from(fd: i32, name: &[u8]) {
-    let mut front = [0u8; reports::MOST_BYTES];
-    let got = read_front(fd, &mut front);
-    let Got::Bytes(n) = got else {
-        fail(name, b" cannot be read");
-        return;
-    };
+fn report_from<F: Read>(rt: &impl Print, errors: &impl Print, file: &mut F, name: &[u8]) {
     let mut text = [0u8; reports::MOST_TEXT];
-    let end = reports::report_front(&front, n, &mut text);
-    print(&text[..end]);
+    match put_report(file, &mut text) {
+        Ok(end) => print(rt, errors, &text[..end]),
+        Err(why) => fail(errors, name, " cannot be read", why),
+    }
+}
+
+fn open<R: Files>(rt: &R, path: &[u8]) -> io::Result<R::File> {
+    match str::from_utf8(path) {
+        Ok(path) => fs::open(rt, path),
+        Err(_) => Err(io::Error::from_raw_os_error(EILSEQ)),
+    }
 }
 
 // A file by its name.
-fn report_on(path: &[u8]) {
-    let fd = os::open_read(path);
-    if fd < 0 {
-        fail(path, b" cannot be opened");
-        return;
+fn report_on<R: Files + Print>(rt: &R, errors: &impl Print, path: &[u8]) {
+    match open(rt, path) {
+        Ok(mut file) => report_from(rt, errors, &mut file, path),
+        Err(why) => fail(errors, path, " cannot be opened", why),
     }
-    report_from(fd, path);
-    libc::close(fd);
 }
 
-// Argument i; of several files each report stands under the file's name.
-fn report_argument(i: usize, several: bool) {
-    let mut path = io::buffer();
-    let n = os::arg(i, &mut path);
-    if os::errno() != 0 {
-        fail(b"an argument", b" cannot be read");
-        return;
-    }
+// A file by its name; of several each report stands under the file's name.
+fn report_named<R: Files + Print>(rt: &R, errors: &impl Print, path: &[u8], several: bool) {
     if several {
-        print(&path[..n]);
-        print(b"\n");
+        print(rt, errors, path);
+        print(rt, errors, b"\n");
     }
-    report_on(&path[..n]);
+    report_on(rt, errors, path);
 }
 
-// The files that the arguments name, or standard input where there are none.
-pub fn run() {
-    let count = os::arg_count();
-    if count < 2 {
-        report_from(STDIN_FILENO, b"standard input");
+// The file that argument i names; answers whether there is such an argument.
+fn report_argument<R: Env + Files + Print>(
+    rt: &R,
+    errors: &impl Print,
+    i: usize,
+    several: bool,
+) -> bool {
+    let mut path = [0u8; MOST_NAME];
+    match rt.arg(i, &mut path) {
+        Ok(n) => report_named(rt, errors, &path[..n], several),
+        Err(FillError::TooLong) => {
+            let why = io::Error::from_raw_os_error(ENAMETOOLONG);
+            fail(errors, b"an argument", " cannot be read", why);
+        }
+        Err(FillError::NotPresent) => return false,
+    }
+    true
+}
+
+fn is_given(rt: &impl Env, i: usize) -> bool {
+    !matches!(rt.arg(i, &mut []), Err(FillError::NotPresent))
+}
+
+// The files that the arguments name, or standard input where there are none. `errors` is standard error, which takes names that are no text.
+pub fn run<R: Env + Files + Input + Print>(rt: &R, errors: &impl Print) {
+    if !is_given(rt, 1) {
+        report_from(rt, errors, &mut rt.reader(), b"standard input");
         return;
     }
-    let mut i = 1;
-    while i < count {
-        report_argument(i, 2 < count);
-        i += 1;
+    let several = is_given(rt, 2);
+    for i in 1..usize::MAX {
+        if !report_argument(rt, errors, i, several) {
+            return;
+        }
     }
 }

@@ -2,6 +2,6 @@
 
 #![tactic(auto)]
 
-fn main() {
-    command::run();
+fn main(rt: HostRuntime) {
+    command::run(&rt, &rt.stderr());
 }
