@@ -1,3 +1,3 @@
-// What proofs by hand of functions that hand their slices on share (proofs/Handed.antt). It has no code.
+// What a proof by hand of a function that hands its slices on can cite (proofs/Handed.antt); no proof here needs it now. It has no code.
 
 #![tactic(auto)]

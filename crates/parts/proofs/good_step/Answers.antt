@@ -1,4 +1,6 @@
 use mathlib.Core.Path.{refl}
+use Prim.Native.Nat.{◌≤◌}
+use native.Mathlib.Omega.{arith}
 use borrow.Author.Tests.{le-leb, lt-leb}
 use Rattle.parts.specs.StepWords.{good_step}
 use Rattle.parts.specs.Items.{good-all, good-not}
@@ -17,7 +19,11 @@ unfolding good_step
 returns-then-flags-gt3 c = rw (le-leb 1 _ c.if-code-lt1.false, le-leb _ 11 c.if-code-gt11.false, lt-leb _ 3 c.if-flags-gt3.true) refl
 
 pub returns-then-good_number : goal.returns-then-good_number
-returns-then-good_number c = good-all _ _ _ _ _ _ _ _ c.if-code-lt1.false c.if-code-gt11.false c.if-flags-gt3.false c.takes_ratio.ensures c.good_number.ensures c.if-good_number.true c.takes_height.ensures c.good_number-then-good_number.ensures
+returns-then-good_number c =
+    let few : c.args.flags ≤ 3 = omega arith in
+    good-all _ _ _ _ _ _ _ _ c.if-code-lt1.false c.if-code-gt11.false few c.takes_ratio.ensures c.good_number.ensures c.if-good_number.true c.takes_height.ensures c.good_number-then-good_number.ensures
 
 pub returns : goal.returns
-returns c = good-not _ _ _ _ _ _ c.if-code-lt1.false c.if-code-gt11.false c.if-flags-gt3.false c.takes_ratio.ensures c.good_number.ensures c.if-good_number.false
+returns c =
+    let few : c.args.flags ≤ 3 = omega arith in
+    good-not _ _ _ _ _ _ c.if-code-lt1.false c.if-code-gt11.false few c.takes_ratio.ensures c.good_number.ensures c.if-good_number.false
