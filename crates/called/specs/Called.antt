@@ -1,7 +1,7 @@
 -- A recipe of steps given as words, a list given by a number, and what a call of one comes to. Definitions only.
 use Rattle.std.specs.Prelude.{Bool, cond, ◌&&◌, List, [], ◌∷◌, ℕ, length, get_or, ltb, leb}
 use Rattle.slices.specs.First.{any}
-use Rattle.operators.specs.declared.Number.{Number}
+use Rattle.operators.specs.Number.{Number}
 use Rattle.steps.specs.Steps.{Mesh, Room}
 use Rattle.chain.specs.Trail.{Trail, stopped}
 use Rattle.named.specs.Named.{list_masks}

@@ -1,9 +1,5 @@
--- Words of four bytes, and the patterns of a NaN. Assumes nothing.
-use Rattle.std.specs.Prelude.{◌≡◌, ℕ, ◌+◌, ◌*◌, ◌/◌, ◌%◌, ◌<◌, ◌≤◌, Bool, false, cond, not, T, List, nat_eq, nat_le, slice_index, Float}
-use Rattle.std.proofs.Common.{ap, ◌∙◌, arith, ne_eqb, le-ltb}
-use Rattle.std.specs.Float.{nan, inf, binary32}
-use Rattle.std.specs.Float.Ieee.{nan_bits, of_bits, of_fields}
-use Rattle.std.specs.Float.Ieee.Bits.{nan_bits_above}
+-- Words of four bytes, the lowest first, at the front of what a reader holds. Assumes nothing.
+use Rattle.std.specs.Prelude.{◌≡◌, ℕ, ◌+◌, ◌*◌, ◌<◌, ◌≤◌, List, Option, Some, None, ⊤, length, drop, slice_index}
 
 -- four bytes, the lowest first
 abbrev pub le32 : ℕ → ℕ → ℕ → ℕ → ℕ
@@ -13,14 +9,9 @@ le32 a b c d = a + b * 256 + c * 65536 + d * 16777216
 abbrev pub word_at : List ℕ → ℕ → ℕ
 word_at s i = le32 (slice_index s (4 * i)) (slice_index s (4 * i + 1)) (slice_index s (4 * i + 2)) (slice_index s (4 * i + 3))
 
--- a pattern up to infinity's, the sign apart, is no NaN's
-pub no_nan : (b : ℕ) → b % 0x8000_0000 ≤ 0x7f80_0000 → T (not (nan_bits binary32 b))
-no_nan b h = rw (nan_bits_above binary32 b, le-ltb 0x7f80_0000 (b % 0x8000_0000) h) tt
-
--- one past it is
-pub is_nan : (b : ℕ) → b < 0x1_0000_0000 → 0x7f80_0000 < b % 0x8000_0000 → of_bits binary32 b ≡ nan
-unfolding of_bits of_fields
-is_nan b w h =
-    let q : b % 0x8000_0000 / 0x80_0000 ≡ 255 = omega arith in
-    let r : nat_eq (b % 0x80_0000) 0 ≡ false = ne_eqb (b % 0x80_0000) 0 (λ e. omega arith) in
-    ap (λ (x : ℕ). of_fields binary32 (nat_le 0x8000_0000 b) x (b % 0x80_0000)) q ∙ ap (λ (z : Bool). cond z (inf (nat_le 0x8000_0000 b)) nan) r
+-- a reader that held these bytes, where they are known, gave these words and holds the rest
+abbrev pub TakesWords : Option (List ℕ) → Option (List ℕ) → List ℕ → Type 0
+TakesWords None new words = ⊤
+TakesWords (Some xs) None words = ⊥
+TakesWords (Some xs) (Some ys) words =
+    (4 * length words ≤ length xs) × ((k : ℕ) → k < length words → slice_index words k ≡ word_at xs k) × (ys ≡ drop (4 * length words) xs)

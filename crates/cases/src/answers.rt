@@ -1,29 +1,30 @@
-// The answers that several codes give: that of a call, and that of what is no case.
+// What the library answers, as fields of a line.
 
-use crate::line::{Text, end, put_name, put_three};
-use engine::Answer;
+use engine::{Counts, Stop};
+use mesh::Refusal;
+use std::fmt;
+use std::fmt::Display;
+use verdicts::{number_of, place_of};
 
 // The number, place and step of a refusal, then the counts of the result; zeros for what is not.
-pub fn put_answer(text: &mut Text, answer: Answer) -> usize {
-    match answer {
-        Answer::Done(counts) => {
-            let at = put_three(text, 0, 0, 0, 0);
-            put_three(text, at, counts.v, counts.e, counts.f)
-        }
-        Answer::Refused {
-            number,
-            place,
-            step,
-        } => {
-            let at = put_three(text, 0, number, place, step);
-            put_three(text, at, 0, 0, 0)
+#[derive(Clone, Copy)]
+pub struct Called(pub Result<Counts, Stop>);
+
+impl Display for Called {
+    fn fmt<W: fmt::Write>(&self, f: &mut fmt::Formatter<W>) -> fmt::Result {
+        match self.0 {
+            Ok(counts) => write!(f, "0 0 0 {} {} {}", counts.v, counts.e, counts.f),
+            Err(stop) => write!(f, "{} {} {} 0 0 0", stop.number, stop.place, stop.step),
         }
     }
 }
 
-// The last line, for what is no case; nothing follows it.
-pub fn bad_case(text: &mut Text) -> bool {
-    let at = put_name(text, 0, b"bad case");
-    end(text, at);
-    false
+// The number and place of a verdict; zeros where nothing is refused.
+#[derive(Clone, Copy)]
+pub struct Checked(pub Result<(), Refusal>);
+
+impl Display for Checked {
+    fn fmt<W: fmt::Write>(&self, f: &mut fmt::Formatter<W>) -> fmt::Result {
+        write!(f, "{} {}", number_of(self.0), place_of(self.0))
+    }
 }

@@ -1,39 +1,53 @@
-// What the flags of a header say is given: its numbers, and the masks of kis.
+// The flags of a header or a step: what is given, and how to choose.
 
-ghost use Rattle.std.specs.Prelude.{◌<◌};
-
-use crate::header::Header;
-use crate::input::float_of;
-use operators::Number;
 use picks::Mask;
+use std::num::f32_from_bits_with_nan;
 
-// Whether a bit of the flags is set; the bit is told by its value.
-pub fn set(flags: u32, bit: u32) -> bool
-    requires { 0 < bit }
-{
-    flags / bit % 2 == 1
+#[derive(Clone, Copy)]
+pub struct Flags {
+    pub ratio: bool,
+    pub height: bool,
+    pub arities: bool,
+    pub faces: bool,
+    pub regular: bool,
+    pub longer: bool,
 }
 
-// The number of a pattern, where it is given.
-pub fn number_of(given: bool, bits: u32) -> Number {
-    if given {
-        return Number::Given(float_of(bits));
+impl From<u32> for Flags {
+    fn from(word: u32) -> Flags {
+        Flags {
+            ratio: word & 1 != 0,
+            height: word & 2 != 0,
+            arities: word & 4 != 0,
+            faces: word & 8 != 0,
+            regular: word & 16 != 0,
+            longer: word & 32 != 0,
+        }
     }
-    Number::Absent
 }
 
-pub fn ratio_of(h: Header) -> Number {
-    number_of(set(h.flags, 1), h.ratio)
-}
-
-pub fn height_of(h: Header) -> Number {
-    number_of(set(h.flags, 2), h.height)
-}
-
-pub fn mask_of(flags: u32) -> Mask {
-    Mask {
-        arities: set(flags, 4),
-        numbers: set(flags, 8),
-        regular: set(flags, 16),
+impl Flags {
+    // The masks of kis.
+    pub fn mask(self) -> Mask {
+        Mask {
+            arities: self.arities,
+            numbers: self.faces,
+            regular: self.regular,
+        }
     }
+
+    // The ratio of these bits, where it is given.
+    pub fn ratio_of(self, bits: u32) -> Option<f32> {
+        number_of(self.ratio, bits)
+    }
+
+    // The height of these bits, where it is given.
+    pub fn height_of(self, bits: u32) -> Option<f32> {
+        number_of(self.height, bits)
+    }
+}
+
+// The number of these bits, where it is given.
+fn number_of(given: bool, bits: u32) -> Option<f32> {
+    given.then_some(f32_from_bits_with_nan(bits))
 }

@@ -1,71 +1,109 @@
 // The header of a case: its 14 words, and the limits of the counts in it.
 
-ghost use Rattle.std.specs.Prelude.{◌≡◌, true};
-ghost use Rattle.cases.specs.Header.{Within};
+ghost use Rattle.std.specs.Prelude.{◌↔◌, IsTrue, IfOk};
+ghost use Rattle.cases.specs.Header.{Fits, Within};
 
-use crate::input::{Block, word};
-use slices::wide;
+use crate::fault::Fault;
+use crate::flags::Flags;
+use crate::input::read_array;
+use std::io::Read;
+
+// The most numbers of a list, and the most coordinates.
+const MOST_NUMBERS: u32 = 65_536;
+
+const MOST_COORDS: u32 = 196_608;
+
+// How many offsets, corners and coordinates a mesh has.
+#[derive(Clone, Copy)]
+pub struct Sizes {
+    pub offsets: u32,
+    pub corners: u32,
+    pub coords: u32,
+}
+
+impl Sizes {
+    // Whether a list of each of these sizes fits the program's memory.
+    pub fn fit(&self) -> bool
+        ensures { IsTrue result ↔ Fits self.now }
+    {
+        self.offsets <= MOST_NUMBERS && self.corners <= MOST_NUMBERS && self.coords <= MOST_COORDS
+    }
+}
 
 #[derive(Clone, Copy)]
 pub struct Header {
     pub code: u32,
-    pub flags: u32,
-    pub ratio: u32,
-    pub height: u32,
-    pub offsets: usize,
-    pub corners: usize,
-    pub coords: usize,
-    pub arities: usize,
-    pub faces: usize,
-    pub out_offsets: usize,
-    pub out_corners: usize,
-    pub out_coords: usize,
+    pub flags: Flags,
+    pub ratio: Option<f32>,
+    pub height: Option<f32>,
+    pub sizes: Sizes,
+    pub arities: u32,
+    pub faces: u32,
+    pub rooms: Sizes,
     pub fill: u32,
 }
 
-// The header at the start of a block.
-pub fn header_of(block: &Block) -> Header {
-    Header {
-        code: word(block, 0),
-        flags: word(block, 1),
-        ratio: word(block, 2),
-        height: word(block, 3),
-        offsets: wide(word(block, 4)),
-        corners: wide(word(block, 5)),
-        coords: wide(word(block, 6)),
-        arities: wide(word(block, 7)),
-        faces: wide(word(block, 8)),
-        out_offsets: wide(word(block, 9)),
-        out_corners: wide(word(block, 10)),
-        out_coords: wide(word(block, 11)),
-        fill: word(block, 12),
+impl Header {
+    // Whether each count is within its limit.
+    fn is_within(&self) -> bool
+        ensures { IsTrue result ↔ Within self.now }
+    {
+        self.sizes.fit()
+            && self.arities <= MOST_NUMBERS
+            && self.faces <= MOST_NUMBERS
+            && self.rooms.fit()
+    }
+
+    // The next header of the input.
+    pub fn read<R: Read>(input: &mut R) -> Result<Header, Fault>
+        ensures { IfOk result (λ h. Within h) }
+    {
+        let header = Header::from(read_array(input)?);
+        if header.is_within() {
+            Ok(header)
+        } else {
+            Err(Fault::BadCase)
+        }
     }
 }
 
-// Whether the program has room for what the header says.
-pub fn within(h: Header) -> bool
-    ensures { result ≡ true → Within h }
-{
-    if h.offsets > 65536 {
-        return false;
+impl From<[u32; 14]> for Header {
+    fn from(words: [u32; 14]) -> Header {
+        let [
+            code,
+            flags,
+            ratio,
+            height,
+            offsets,
+            corners,
+            coords,
+            arities,
+            faces,
+            room_o,
+            room_c,
+            room_x,
+            fill,
+            _,
+        ] = words;
+        let flags = Flags::from(flags);
+        Header {
+            code,
+            flags,
+            ratio: flags.ratio_of(ratio),
+            height: flags.height_of(height),
+            sizes: Sizes {
+                offsets,
+                corners,
+                coords,
+            },
+            arities,
+            faces,
+            rooms: Sizes {
+                offsets: room_o,
+                corners: room_c,
+                coords: room_x,
+            },
+            fill,
+        }
     }
-    if h.corners > 65536 {
-        return false;
-    }
-    if h.coords > 196608 {
-        return false;
-    }
-    if h.arities > 65536 {
-        return false;
-    }
-    if h.faces > 65536 {
-        return false;
-    }
-    if h.out_offsets > 65536 {
-        return false;
-    }
-    if h.out_corners > 65536 {
-        return false;
-    }
-    h.out_coords <= 196608
 }

@@ -1,12 +1,16 @@
-// Cases: reading one from standard input, what it lends, and writing the line of its answer.
+// Cases: reading them from standard input, what they lend, and the text of their answers.
 // docs/REPLAY.md says what a case is.
 
 #![tactic(auto)]
 
 pub mod answers;
+pub mod case;
+pub mod fault;
 pub mod flags;
 pub mod header;
 pub mod input;
-pub mod lent;
-pub mod line;
-pub mod lists;
+pub mod operator;
+pub mod owned;
+pub mod playing;
+pub mod shapes;
+pub mod text;

@@ -1,3 +1,4 @@
+pub mod Lent
 pub mod Trail
 pub mod Chained
 pub mod ChainLaws

@@ -3,8 +3,7 @@ use Rattle.std.specs.Prelude.{◌≡◌, List, [], ◌∷◌, ℕ, ◌+◌, leng
 use Rattle.slices.specs.Lists.{zero_f}
 use Rattle.rule.specs.Flat.{flat, offsets_of}
 use Rattle.engine.specs.Result.{Outcome, refused, result, counts_of, offsets_after, corners_after, coords_after}
-use Rattle.engine.specs.declared.Answer.{Answer}
-use Rattle.engine.specs.declared.Answer.TheVariants.{Done, Refused}
+use Rattle.engine.specs.Answer.{Answer, Done, Refused}
 use Rattle.steps.specs.Steps.{Mesh, Room, Masks, mesh, code_of, step_on}
 use Rattle.steps.specs.declared.Step.{Step}
 use Rattle.copies.specs.Copy.{copy_outcome}

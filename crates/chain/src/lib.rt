@@ -2,17 +2,19 @@
 
 #![tactic(auto)]
 
-ghost use Rattle.std.specs.Prelude.{◌≡◌, ◌+◌, ◌<◌, length, take, drop};
-ghost use Rattle.steps.specs.Steps.{masks, room};
-ghost use Rattle.chain.specs.Trail.{trail};
-ghost use Rattle.chain.specs.Chained.{row_with, finish_of, extent_of, front, Ready, Chained};
+ghost use Rattle.std.specs.Prelude.{◌≡◌, ◌+◌, ◌<◌, ◌∷◌, length, IfOk};
+ghost use Rattle.steps.specs.Steps.{masks, step_on};
+ghost use Rattle.chain.specs.Lent.{shown, held, space, IsKept, AreKept};
+ghost use Rattle.chain.specs.Trail.{lastly, trail};
+ghost use Rattle.chain.specs.Chained.{row_with, finish_of, front, Within, Ready, from_answer, Chained};
 
-use engine::{Answer, Counts};
+use engine::{Counts, Stop};
+use mesh::{Mesh, MeshMut};
 use picks::Mask;
 use steps::Step;
 
 // A row of the ledger.
-#[derive(Clone, Copy)]
+#[derive(Clone, Copy, Default)]
 pub struct Row {
     pub code: u32,
     pub v: u32,
@@ -23,26 +25,17 @@ pub struct Row {
 // What came of a list: its answer, the rows of its finished steps, and how many these are.
 #[derive(Clone, Copy)]
 pub struct Ran {
-    pub answer: Answer,
+    pub answer: Result<Counts, Stop>,
     pub rows: [Row; 16],
     pub done: usize,
-}
-
-// How many offsets, corners and coordinates of a work mesh are the mesh that lies at its front.
-#[derive(Clone, Copy)]
-pub struct Extent {
-    pub offsets: usize,
-    pub corners: usize,
-    pub coords: usize,
 }
 
 // The row of a step and the counts of what it made.
 fn row_of(s: Step, c: Counts) -> Row
     ensures { result ≡ row_with s c }
 {
-    let code = steps::code(s);
     Row {
-        code,
+        code: steps::code(s),
         v: c.v,
         e: c.e,
         f: c.f,
@@ -50,128 +43,86 @@ fn row_of(s: Step, c: Counts) -> Row
 }
 
 // A step has answered, after k that are done: its row, or where it was refused.
-pub fn finish(made: Answer, s: Step, k: usize, rows: [Row; 16]) -> Ran
+fn finish(made: Result<Counts, Stop>, s: Step, k: usize, mut rows: [Row; 16]) -> Ran
     requires { k < 16 }
     ensures { result ≡ finish_of made s k rows }
 {
     match made {
-        Answer::Done(c) => {
-            let mut more = rows;
-            more[k] = row_of(s, c);
+        Ok(counts) => {
+            rows[k] = row_of(s, counts);
             Ran {
                 answer: made,
-                rows: more,
+                rows,
                 done: k + 1,
             }
         }
-        Answer::Refused {
-            number,
-            place,
-            step: _,
-        } => Ran {
-            answer: Answer::Refused {
-                number,
-                place,
+        Err(stop) => Ran {
+            answer: Err(Stop {
                 step: (k + 1) as u32,
-            },
+                ..stop
+            }),
             rows,
             done: k,
         },
     }
 }
 
-// The extent of a mesh with these counts in a work mesh with these offsets: the last offset is the number of corners.
-pub fn extent_of(c: Counts, offsets: &[u32]) -> Extent
-    requires { c.f < length offsets.now }
-    ensures { result ≡ extent_of c offsets.now }
+// A step on a mesh, after k that are done.
+pub fn step(
+    s: Step,
+    k: usize,
+    rows: [Row; 16],
+    mask: Mask,
+    arities: &[u32],
+    numbers: &[u32],
+    mesh: Mesh<'_>,
+    out: &mut MeshMut<'_>,
+) -> Ran
+    requires { k < 16 }
+    ensures stepped { Chained (lastly s (k + 1) (step_on (masks mask arities.now numbers.now) s (shown mesh.entry) (space out.old))) k rows result (held out.old) (held out.new) }
+    ensures kept { IsKept out.old out.new }
 {
-    let f = slices::wide(c.f);
-    let v = slices::wide(c.v);
-    let n = slices::look(offsets, f);
-    Extent {
-        offsets: f + 1,
-        corners: n,
-        coords: 3 * v,
+    let made = steps::apply(s, mask, arities, numbers, mesh, out);
+    finish(made, s, k, rows)
+}
+
+// The mesh with these counts at the front of a work mesh: its last offset is the number of its corners.
+fn front<'a>(room: &'a MeshMut<'_>, c: Counts) -> Mesh<'a>
+    requires { Within c (held room.now) }
+    ensures { shown result ≡ front c (held room.now) }
+{
+    let f = c.f as usize;
+    Mesh {
+        offsets: &room.offsets[..f + 1],
+        corners: &room.corners[..room.offsets[f] as usize],
+        coords: &room.coords[..3 * c.v as usize],
     }
 }
 
-// The steps after the first k, on the mesh at the front of the work mesh a: each writes the other work mesh, and the last the output.
+// A step and the rest, after what came of those before them, whose mesh is at the front of the work mesh a: each step writes the other
+// work mesh, and the last one the output.
 pub fn chain(
-    steps: [Step; 16],
-    n: usize,
-    k: usize,
+    ran: Ran,
+    s: Step,
+    rest: &[Step],
     mask: Mask,
-    e: Extent,
-    rows: [Row; 16],
     arities: &[u32],
     numbers: &[u32],
-    ao: &mut [u32],
-    ac: &mut [u32],
-    ap: &mut [f32],
-    bo: &mut [u32],
-    bc: &mut [u32],
-    bp: &mut [f32],
-    xo: &mut [u32],
-    xc: &mut [u32],
-    xp: &mut [f32],
+    a: &mut MeshMut<'_>,
+    b: &mut MeshMut<'_>,
+    out: &mut MeshMut<'_>,
 ) -> Ran
-    requires { Ready n k e ao.old ac.old ap.old }
-    ensures { Chained (trail (masks mask arities.now numbers.now) (drop k (take n steps)) (k + 1) (front e ao.old ac.old ap.old) (room bo.old bc.old bp.old) (room ao.old ac.old ap.old) (room xo.old xc.old xp.old)) k rows result xo.old xc.old xp.old xo.new xc.new xp.new }
+    requires { IfOk ran.answer (λ c. Ready (length rest.now) ran.done c (held a.old)) }
+    ensures chained { Chained (from_answer ran.answer (λ c. trail (masks mask arities.now numbers.now) (s ∷ rest.now) (ran.done + 1) (front c (held a.old)) (space b.old) (space a.old) (space out.old))) ran.done ran.rows result (held out.old) (held out.new) }
+    ensures kept { AreKept a.old b.old out.old a.new b.new out.new }
 {
-    let s = steps[k];
-    let eo = e.offsets;
-    let ec = e.corners;
-    let ep = e.coords;
-    if k + 1 == n {
-        let made = steps::apply(
-            s,
-            mask,
-            arities,
-            numbers,
-            &ao[..eo],
-            &ac[..ec],
-            &ap[..ep],
-            xo,
-            xc,
-            xp,
-        );
-        return finish(made, s, k, rows);
-    }
-    let made = steps::apply(
-        s,
-        mask,
-        arities,
-        numbers,
-        &ao[..eo],
-        &ac[..ec],
-        &ap[..ep],
-        bo,
-        bc,
-        bp,
-    );
-    let ran = finish(made, s, k, rows);
-    let Answer::Done(c) = made else {
+    let Ok(counts) = ran.answer else {
         return ran;
     };
-    let next = extent_of(c, bo);
-    let more = ran.rows;
-    chain(
-        steps,
-        n,
-        k + 1,
-        mask,
-        next,
-        more,
-        arities,
-        numbers,
-        bo,
-        bc,
-        bp,
-        ao,
-        ac,
-        ap,
-        xo,
-        xc,
-        xp,
-    )
+    let mesh = front(a, counts);
+    let Some((next, rest)) = rest.split_first() else {
+        return step(s, ran.done, ran.rows, mask, arities, numbers, mesh, out);
+    };
+    let ran = step(s, ran.done, ran.rows, mask, arities, numbers, mesh, b);
+    chain(ran, *next, rest, mask, arities, numbers, b, a, out)
 }

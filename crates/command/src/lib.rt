@@ -51,26 +51,17 @@ fn put_report<F: Read>(file: &mut F, text: &mut [u8; reports::MOST_TEXT]) -> io:
 
 // The system's words for an error, without the number that std puts behind them.
 fn reason(said: &str) -> &str {
-    match said.rsplit_once(" (os error ") {
-        Some((words, _)) => words,
-        None => said,
-    }
+    said.rsplit_once(" (os error ")
+        .map_or(said, |(words, _)| words)
 }
 
-// Nothing is left to do where standard error cannot be written.
-fn say(errors: &impl Print, bytes: &[u8]) {
-    let _ = errors.write_all(bytes);
-}
-
-// What could not be done with which file, and why.
+// What could not be done with which file, and why. Nothing is left to do where standard error cannot be written.
 fn fail(errors: &impl Print, name: &[u8], what: &str, why: io::Error) {
     let said = InlineText::<256>::of(why);
-    say(errors, b"report: ");
-    say(errors, name);
-    say(errors, what.as_bytes());
-    say(errors, b": ");
-    say(errors, reason(said.as_str()).as_bytes());
-    say(errors, b"\n");
+    let reason = reason(said.as_str());
+    let _ = print!(errors; "report: ");
+    let _ = errors.write_all(name);
+    let _ = println!(errors; "{what}: {reason}");
 }
 
 fn print(rt: &impl Print, errors: &impl Print, bytes: &[u8]) {
@@ -89,10 +80,10 @@ fn report_from<F: Read>(rt: &impl Print, errors: &impl Print, file: &mut F, name
 }
 
 fn open<R: Files>(rt: &R, path: &[u8]) -> io::Result<R::File> {
-    match str::from_utf8(path) {
-        Ok(path) => fs::open(rt, path),
-        Err(_) => Err(io::Error::from_raw_os_error(EILSEQ)),
-    }
+    let Ok(path) = str::from_utf8(path) else {
+        return Err(io::Error::from_raw_os_error(EILSEQ));
+    };
+    fs::open(rt, path)
 }
 
 // A file by its name.

@@ -1,5 +1,5 @@
 -- Demand 3 along a recipe: V - E + F is the same in every row of the ledger. Assumes nothing.
-use Rattle.std.specs.Prelude.{◌≡◌, refl, Bool, true, false, cond, List, [], ◌∷◌, ℕ, ◌+◌, ◌/◌, length, Float}
+use Rattle.std.specs.Prelude.{◌≡◌, refl, Bool, true, false, cond, List, [], ◌∷◌, ℕ, ◌+◌, length, Float}
 use Rattle.std.proofs.Common.{sym, true≢false, arith}
 use Rattle.rule.specs.Flat.{flat, offsets_of, length-offsets}
 use Rattle.engine.specs.Result.{Outcome, refused, result}
@@ -7,7 +7,7 @@ use Rattle.steps.specs.Steps.{Mesh, Room, Masks, mesh, step_on}
 use Rattle.steps.specs.declared.Step.{Step}
 use Rattle.chain.specs.Trail.{Trail, row_of, lastly, onward, trail}
 use Rattle.chain.specs.declared.Row.{Row}
-use Rattle.lasting.specs.Demand3.{steady, positions_in, edges_in, faces_in, Passes, SameX, Kept, excused, Lasts}
+use Rattle.lasting.specs.Demand3.{steady, positions_in, edges_in, faces_in, Passes, SameX, excused, Lasts}
 use Rattle.lasting.proofs.Demand3Proof.{one-step}
 
 -- ---- what is said of a list of steps on the mesh w

@@ -1,26 +1,28 @@
 -- A mesh is its own faces laid flat, and what a copy comes to, from the parts as the code has them. Assumes nothing.
-use Rattle.std.specs.Prelude.{◌≡◌, drop, Float}
+use Rattle.std.specs.Prelude.{Ok, Err, IfOk, IsErrAnd, ◌≡◌, Float}
 use Rattle.std.proofs.Math.Path.{refl, sym, ap, ap₂}
 use Rattle.std.proofs.Common.{◌∙◌, le_refl, take-add, take-suc}
 use mathlib.Core.List.{List, [], ◌∷◌, ◌++◌}
-use Prim.Native.Nat.{ℕ, zero, suc, ◌+◌, ◌-◌, ◌*◌, ◌/◌, ◌<◌, ◌≤◌}
+use Prim.Native.Nat.{ℕ, zero, suc, ◌+◌, ◌-◌, ◌/◌, ◌<◌, ◌≤◌}
 use native.Mathlib.Omega.{arith}
 use Rattle.std.proofs.Math.Numerals.{add-one}
 use Rattle.std.proofs.Math.ListN.{length, get_or, take}
 use Rattle.std.proofs.lemmas.List.Edits.{sets}
 use Rattle.std.proofs.Math.Seq.{take-length, length-take-le}
-use Rattle.slices.specs.Lists.{each, over, sets_over, length-each}
+use Rattle.slices.specs.Lists.{each, sets_over, length-each}
 use Rattle.mesh.specs.Mesh.{faces, start, end, arity, run, faces_of}
-use Rattle.mesh.specs.Tests.{verdict, and_then, both-good, passed, pass, clear, size_tests, face_tests}
-use Rattle.mesh.specs.Shape.{Shaped, Limited, mono, end-le, length_run, size-good}
-use Rattle.mesh.specs.declared.Verdict.{Verdict}
-use Rattle.mesh.specs.declared.Verdict.TheVariants.{Good, Bad}
+use Rattle.mesh.specs.Tests.{verdict, and_then, passed, pass, clear, size_tests, face_tests}
+use Rattle.mesh.specs.Shape.{Shaped, mono, length_run, size-good}
+use Rattle.mesh.specs.Lent.{of_mesh, IsSameRoom}
+use Rattle.mesh.specs.Verdict.{Verdict, Good}
+use Rattle.mesh.specs.declared.Mesh.{Mesh}
+use Rattle.mesh.specs.declared.MeshMut.{MeshMut}
+use Rattle.mesh.specs.declared.Refusal.{Refusal}
 use Rattle.rule.specs.Flat.{flat, ends, offsets_of, flat_append, flat-one, ends-append}
-use Rattle.engine.specs.Result.{Outcome, outcome, outcome_of, table, asked, room_tests, finite_tests, Came}
-use Rattle.engine.specs.ResultLaws.{by-groups, Fits, room-good}
-use Rattle.engine.specs.Known.{refusal_of}
-use Rattle.engine.specs.declared.Answer.{Answer}
-use Rattle.engine.specs.declared.Answer.TheVariants.{Done, Refused}
+use Rattle.engine.specs.Result.{outcome, outcome_of, table, asked, room_tests, finite_tests, Fills}
+use Rattle.engine.specs.ResultLaws.{by-groups, Fits, room-good, fills_refused, fills_done}
+use Rattle.engine.specs.Answer.{Answer, stop_of}
+use Rattle.engine.specs.declared.Counts.{Counts}
 use Rattle.engine.specs.declared.Asks.TheVariants.{Open}
 use Rattle.copies.specs.Copy.{copy_outcome}
 
@@ -81,8 +83,8 @@ unfolding face_tests finite_tests
 finite-known o k x e = pass _ _ _ refl (passed _ _ e).0 clear
 
 then-good : (v w : Verdict) → w ≡ Good → and_then v w ≡ v
-then-good Good w e = e
-then-good (Bad n p) w e = refl
+then-good (Ok _) w e = e
+then-good (Err r) w e = refl
 
 module _ (o k : List ℕ) (x : List Float) (lo lc lx : ℕ) where
   abbrev S : Verdict
@@ -104,9 +106,9 @@ module _ (o k : List ℕ) (x : List Float) (lo lc lx : ℕ) where
       ∙ ap₂ (λ (i j : ℕ). verdict (room_tests i j (length x) lo lc lx)) (count-own o k s) (ap length (flat-own o k s))
 
   groups : (s f : Verdict) → S ≡ s → F ≡ f → and_then s (and_then f (and_then R' (verdict (finite_tests x)))) ≡ and_then s (and_then f R)
-  groups Good Good e g = rooms e g
-  groups Good (Bad n p) e g = refl
-  groups (Bad n p) f e g = refl
+  groups (Ok _) (Ok _) e g = rooms e g
+  groups (Ok _) (Err r) e g = refl
+  groups (Err r) f e g = refl
 
   judged : verdict (table Open o k x [] (faces_of o k) x lo lc lx) ≡ copy_verdict o k x lo lc lx
   unfolding asked verdict
@@ -117,38 +119,43 @@ module _ (o k : List ℕ) (x : List Float) (lo lc lx : ℕ) where
     pub shaped : Shaped o (length k)
     pub room : Fits (faces o) (length k) (length x) lo lc lx
 
-  pub copied-by : (v : Verdict) → v ≡ copy_verdict o k x lo lc lx → v ≡ Good → Copied
-  copied-by v e g =
-      let w = both-good S (and_then F R) (sym e ∙ g) in
-      record { shaped = (size-good o (length k) (length x) w.0).0; room = room-good _ _ _ _ _ _ (both-good F R w.1).1 }
+  pub copied : (v : Verdict) → Good ≡ S → v ≡ R → IfOk v (λ _. Copied)
+  copied (Ok _) e f = record { shaped = (size-good o (length k) (length x) (sym e)).0; room = room-good _ _ _ _ _ _ (sym f) }
+  copied (Err r) e f = tt
 
 -- ---- a call
 
-module _ (o k : List ℕ) (x : List Float) (oo oc : List ℕ) (ox : List Float) where
+module _ (m : Mesh) (old : MeshMut) where
+  abbrev o : List ℕ
+  o = m.offsets.now
+
+  abbrev k : List ℕ
+  k = m.corners.now
+
+  abbrev x : List Float
+  x = m.coords.now
+
   abbrev J : Verdict
-  J = copy_verdict o k x (length oo) (length oc) (length ox)
+  J = copy_verdict o k x (length old.offsets.now) (length old.corners.now) (length old.coords.now)
 
-  abbrev Q : Outcome
-  Q = copy_outcome o k x (length oo) (length oc) (length ox)
-
-  outcome-is : (v : Verdict) → v ≡ J → Q ≡ outcome_of v (faces_of o k) x
+  outcome-is : (v : Verdict) → v ≡ J → of_mesh copy_outcome m (length old.offsets.now) (length old.corners.now) (length old.coords.now) ≡ outcome_of v (faces_of o k) x
   unfolding copy_outcome outcome
-  outcome-is v e = ap (λ (v : Verdict). outcome_of v (faces_of o k) x) (judged o k x (length oo) (length oc) (length ox) ∙ sym e)
+  outcome-is v e = ap (λ (v : Verdict). outcome_of v (faces_of o k) x) (judged o k x (length old.offsets.now) (length old.corners.now) (length old.coords.now) ∙ sym e)
 
-  pub copy-refused : (v : Verdict) {n p : ℕ} (r : Answer) → v ≡ J → v ≡ Bad n p → r ≡ refusal_of v → Came Q oo oc ox r oo oc ox
-  copy-refused v {n} {p} r e b a = rw (outcome-is v e, b) (record { answer = a ∙ ap refusal_of b; offsets = refl; corners = refl; coords = refl })
+  pub copy_refused : (v : Verdict) (r : Refusal) (a : Answer) → v ≡ J → v ≡ Err r → IsErrAnd a (λ s. s ≡ stop_of r) → Fills (of_mesh copy_outcome m) old a old
+  copy_refused v r a e f g = fills_refused (of_mesh copy_outcome m) old r a (outcome-is v e ∙ ap (λ (w : Verdict). outcome_of w (faces_of o k) x) f) g
 
   pub copy_done :
-      (v : Verdict) (r : Answer) (o' k' : List ℕ) (x' : List Float) → v ≡ J → v ≡ Good →
-      r ≡ Done (record { v = length x / 3; e = length k / 2; f = length o - 1 }) →
-      o' ≡ sets oo 0 o → k' ≡ sets oc 0 k → x' ≡ sets ox 0 x → Came Q oo oc ox r o' k' x'
-  copy_done v r o' k' x' e g a b c d =
-      let w = copied-by o k x (length oo) (length oc) (length ox) v e g in
-      let s = w.shaped in
-      let f = w.room in
-      rw (outcome-is v e, g) (record {
-        answer = rw (count-own o k s, flat-own o k s) a;
-        offsets = rw (offsets-own o k s) (b ∙ sets_over oo o (omega (arith, s.some, f.faces-fit)));
-        corners = rw (flat-own o k s) (c ∙ sets_over oc k f.corners-fit);
-        coords = d ∙ sets_over ox x f.coords-fit;
-      })
+      (new : MeshMut) (v : Verdict) (c : Counts) → v ≡ J → v ≡ Good → Copied o k x (length old.offsets.now) (length old.corners.now) (length old.coords.now) →
+      c ≡ record { v = length x / 3; e = length k / 2; f = length o - 1 } →
+      new.offsets.now ≡ sets old.offsets.now 0 o → new.corners.now ≡ sets old.corners.now 0 k → new.coords.now ≡ sets old.coords.now 0 x →
+      IsSameRoom old new → Fills (of_mesh copy_outcome m) old (Ok c) new
+  copy_done new v c e f w g h i j s =
+      let l = w.shaped in
+      let r = w.room in
+      fills_done (of_mesh copy_outcome m) old new (faces_of o k) x c (outcome-is v e ∙ ap (λ (u : Verdict). outcome_of u (faces_of o k) x) f)
+      (rw (count-own o k l, flat-own o k l) g)
+      (rw (offsets-own o k l) (h ∙ sets_over old.offsets.now o (omega (arith, l.some, r.faces-fit))))
+      (rw (flat-own o k l) (i ∙ sets_over old.corners.now k r.corners-fit))
+      (j ∙ sets_over old.coords.now x r.coords-fit)
+      s

@@ -2,51 +2,39 @@
 
 #![tactic(auto)]
 
-ghost use Rattle.std.specs.Prelude.{◌≡◌, length};
-ghost use Rattle.engine.specs.Result.{Came};
+ghost use Rattle.std.specs.Prelude.{◌≡◌, length, IfOk};
+ghost use Rattle.mesh.specs.Lent.{of_mesh};
+ghost use Rattle.engine.specs.Result.{Fills};
 ghost use Rattle.copies.specs.Copy.{copy_outcome};
-ghost use Rattle.copies.specs.CopyLaws.{copy_verdict};
+ghost use Rattle.copies.specs.CopyLaws.{copy_verdict, Copied};
 
-use engine::Answer;
+use engine::{Counts, Stop};
+use mesh::{Mesh, MeshMut, Refusal};
 
-// The table of a copy into an output with room for so many offsets, corners and coordinates.
-fn check_copy(
-    offsets: &[u32],
-    corners: &[u32],
-    coords: &[f32],
-    lo: usize,
-    lc: usize,
-    lx: usize,
-) -> mesh::Verdict
-    ensures { result ≡ copy_verdict offsets.now corners.now coords.now lo lc lx }
+// The table of a copy into this room.
+fn check_copy(mesh: Mesh<'_>, room: &MeshMut<'_>) -> Result<(), Refusal>
+    ensures value { result ≡ of_mesh copy_verdict mesh.entry (length room.now.offsets.now) (length room.now.corners.now) (length room.now.coords.now) }
+    ensures fits { IfOk result (λ _. Copied mesh.entry.offsets.now mesh.entry.corners.now mesh.entry.coords.now (length room.now.offsets.now) (length room.now.corners.now) (length room.now.coords.now)) }
 {
-    let size = mesh::check_size(offsets, corners.len(), coords.len());
-    let mesh::Verdict::Good = size else {
-        return size;
-    };
-    let faces = mesh::check_faces(offsets, corners, coords);
-    let mesh::Verdict::Good = faces else {
-        return faces;
-    };
-    engine::check_room(offsets.len() - 1, corners.len(), coords.len(), lo, lc, lx)
+    let (corners, numbers) = (mesh.corners.len(), mesh.coords.len());
+    mesh::check_size(mesh.offsets, corners, numbers)?;
+    mesh::check_faces(mesh.offsets, mesh.corners, mesh.coords)?;
+    let faces = mesh.offsets.len() - 1;
+    let (lo, lc, lx) = (room.offsets.len(), room.corners.len(), room.coords.len());
+    engine::check_room(faces, corners, numbers, lo, lc, lx)
 }
 
-pub fn copy(
-    offsets: &[u32],
-    corners: &[u32],
-    coords: &[f32],
-    oo: &mut [u32],
-    oc: &mut [u32],
-    ox: &mut [f32],
-) -> Answer
-    ensures { Came (copy_outcome offsets.now corners.now coords.now (length oo.old) (length oc.old) (length ox.old)) oo.old oc.old ox.old result oo.new oc.new ox.new }
+// The mesh as it is.
+pub fn copy(mesh: Mesh<'_>, out: &mut MeshMut<'_>) -> Result<Counts, Stop>
+    ensures { Fills (of_mesh copy_outcome mesh.entry) out.old result out.new }
 {
-    let v = check_copy(offsets, corners, coords, oo.len(), oc.len(), ox.len());
-    let mesh::Verdict::Good = v else {
-        return engine::refusal(v);
-    };
-    slices::copy_u32(offsets, oo);
-    slices::copy_u32(corners, oc);
-    slices::copy_f32(coords, ox);
-    engine::done(offsets.len() - 1, corners.len(), coords.len())
+    check_copy(mesh, out)?;
+    slices::copy_to_front(mesh.offsets, out.offsets);
+    slices::copy_to_front(mesh.corners, out.corners);
+    slices::copy_to_front(mesh.coords, out.coords);
+    Ok(engine::counts_of(
+        mesh.offsets.len() - 1,
+        mesh.corners.len(),
+        mesh.coords.len(),
+    ))
 }

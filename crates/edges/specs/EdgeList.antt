@@ -1,26 +1,24 @@
 -- The edge list: its definition, what a call that lists the edges comes to, and the laws of the loop that writes it.
 -- Assumes nothing.
+use Rattle.std.specs.Prelude.{Ok, Err}
 use Prim.Native.Nat.{ℕ, zero, suc, ◌+◌, ◌*◌, ◌≤◌, ◌<◌}
 use Rattle.std.specs.Prelude.{◌≡◌, Bool, true, false, not, ◌&&◌, set, ltb, Float}
 use Rattle.std.proofs.Math.Path.{refl, sym, ap, ap₂}
-use Rattle.std.proofs.Common.{◌∙◌, add-zero, not-suc-le-zero, add-one}
+use Rattle.std.proofs.Common.{◌∙◌, add-zero, add-one}
 use Rattle.std.proofs.Math.Bool.{cond}
 use mathlib.Core.List.{List, [], ◌∷◌, ◌++◌}
 use native.Mathlib.Omega.{arith}
 use Rattle.std.proofs.Math.Nat.{zero-add}
 use Rattle.std.proofs.Math.ListN.{length}
 use Rattle.std.proofs.Math.Seq.{sets}
-use borrow.Author.Tests.{lt-ltb, le-ltb}
-use Rattle.slices.specs.First.{count, nowhere, found, none}
+use Rattle.slices.specs.First.{first, count, nowhere}
 use Rattle.slices.specs.Lists.{each, over, each_more, length-where, sets-append, sets_over}
 use Rattle.mesh.specs.Mesh.{window}
-use Rattle.mesh.specs.Tests.{Test, met, verdict, tests, edge_tests, passed, tests-good, verdict-append, and_then, accepted, refused as refuses, stop, pass, clear}
+use Rattle.mesh.specs.Tests.{Test, met, verdict, tests, edge_tests, passed, tests-good, verdict-append, and_then}
 use Rattle.mesh.specs.Edges.{up, edges}
 use Rattle.mesh.specs.Count.{count-mono}
-use Rattle.mesh.specs.declared.Verdict.{Verdict}
-use Rattle.mesh.specs.declared.Verdict.TheVariants.{Good, Bad}
-use Rattle.edges.specs.declared.Listing.{Listing}
-use Rattle.edges.specs.declared.Listing.TheVariants.{Listed, Refused}
+use Rattle.mesh.specs.Verdict.{Verdict, Good, Bad}
+use Rattle.edges.specs.Listing.{Listing, Listed, Refused}
 
 -- the windows that ascend, in the order of the corners (so a face's closing one comes last), each where it is first met
 unfoldable pub edge_list : List ℕ → List ℕ → List (List ℕ)
@@ -36,8 +34,8 @@ pub data Called : Type 0 where
   result : List (List ℕ) → Called
 
 abbrev pub called_of : Verdict → List (List ℕ) → Called
-called_of Good es = result es
-called_of (Bad n p) es = refused n p
+called_of (Ok _) es = result es
+called_of (Err r) es = refused r.number r.place
 
 unfoldable pub listing : List ℕ → List ℕ → List Float → ℕ → Called
 listing o k x room = called_of (verdict (list_tests o k x room)) (edge_list o k)
@@ -116,41 +114,29 @@ module _ (o k : List ℕ) where
       )
 
 -- ---- the call: refused by the table, refused for room, done
-module _ (o k : List ℕ) (x : List Float) (room : ℕ) where
-  fits : Test
-  fits = record { number = 13; holds = λ i. ltb room (length (edge_list o k)); places = 1 }
+room_row : (b : Bool) → verdict (record { number = 13; holds = λ i. b; places = 1 } ∷ []) ≡ cond b (Bad 13 0) Good
+unfolding verdict first
+room_row true = refl
+room_row false = refl
 
-  by-table : (v : Verdict) → v ≡ and_then (verdict (tests o k x)) (verdict (fits ∷ [])) → called_of v (edge_list o k) ≡ listing o k x room
-  unfolding listing list_tests fits
-  by-table v e = ap (λ (w : Verdict). called_of w (edge_list o k)) (e ∙ sym (verdict-append (tests o k x) (fits ∷ [])))
+module _ (o k : List ℕ) (x : List Float) where
+  pub length_listed : Good ≡ verdict (tests o k x) → length (edge_list o k) ≡ edges o k
+  length_listed e = length-list o k (tests-good o k x (sym e)).1.1
 
-  pub listing-bad : (v : Verdict) {n p : ℕ} → v ≡ verdict (tests o k x) → v ≡ Bad n p → refused n p ≡ listing o k x room
-  listing-bad v {n} {p} e f = by-table (Bad n p) (refuses (Bad n p) (verdict (tests o k x)) (verdict (fits ∷ [])) refl (sym f ∙ e))
+  pub over_listed : Good ≡ verdict (tests o k x) → (old : List (List ℕ)) → edges o k ≤ length old → sets old 0 (each (rise o k) (length k)) ≡ over (edge_list o k) old
+  over_listed e old h =
+      let l = length_listed e in
+      ap (sets old 0) (sym (all-rise o k (tests-good o k x (sym e)).1.1)) ∙ sets_over old (edge_list o k) (omega arith)
 
-  module _ (g : verdict (tests o k x) ≡ Good) (m : ℕ) (e : m ≡ edges o k) where
-    long : length (edge_list o k) ≡ m
-    long = length-list o k (tests-good o k x g).1.1 ∙ sym e
-
-    pub listing-tight : room < m → refused 13 0 ≡ listing o k x room
-    unfolding fits
-    listing-tight h = by-table (Bad 13 0) (accepted (Bad 13 0) (verdict (tests o k x)) (verdict (fits ∷ [])) g
-        (stop fits [] 0 (found fits.holds 1 0 (omega arith) (λ i l. absurd (not-suc-le-zero l)) (lt-ltb room (length (edge_list o k)) (rw long h))) (omega arith)))
-
-    pub listing-done : m ≤ room → result (edge_list o k) ≡ listing o k x room
-    unfolding fits
-    listing-done h = by-table Good (accepted Good (verdict (tests o k x)) (verdict (fits ∷ [])) g
-        (pass fits [] 1 (none fits.holds 1 (λ i l. le-ltb room (length (edge_list o k)) (rw long h))) (omega arith) clear))
-
--- what a caller sees
-pub came : (q : Called) (r : Listing) (old new : List (List ℕ)) (p : Called) → p ≡ q → r ≡ answer_of p → new ≡ list_after p old → (r ≡ answer_of q) × (new ≡ list_after q old)
-came q r old new p e f g = (f ∙ ap answer_of e, g ∙ ap (λ (z : Called). list_after z old) e)
-
-pub came-done :
-    (o k : List ℕ) (x : List Float) (old new : List (List ℕ)) (m r : ℕ) → verdict (tests o k x) ≡ Good → m ≡ edges o k → m ≤ length old →
-    r ≡ m → new ≡ sets old 0 (each (rise o k) (length k)) → (Listed r ≡ answer_of (listing o k x (length old))) × (new ≡ list_after (listing o k x (length old)) old)
-came-done o k x old new m r g e h q s =
-    let t = (tests-good o k x g).1.1 in
-    let l : length (edge_list o k) ≡ m = length-list o k t ∙ sym e in
-    came (listing o k x (length old)) (Listed r) old new (result (edge_list o k)) (listing-done o k x (length old) g m e h)
-    (ap Listed (q ∙ sym l))
-    (s ∙ ap (sets old 0) (sym (all-rise o k t)) ∙ sets_over old (edge_list o k) (omega arith))
+  -- by the table, and then by the number of edges
+  pub listing_is : (room : ℕ) → listing o k x room ≡ called_of (and_then (verdict (tests o k x)) (cond (ltb room (edges o k)) (Bad 13 0) Good)) (edge_list o k)
+  unfolding listing list_tests
+  listing_is room =
+      ap (λ (v : Verdict). called_of v (edge_list o k))
+      (verdict-append (tests o k x) (record { number = 13; holds = λ i. ltb room (length (edge_list o k)); places = 1 } ∷ [])
+      ∙ ap (and_then (verdict (tests o k x))) (room_row (ltb room (length (edge_list o k))))
+      ∙ go (verdict (tests o k x)) length_listed)
+    where
+      go : (v : Verdict) → (Good ≡ v → length (edge_list o k) ≡ edges o k) → and_then v (cond (ltb room (length (edge_list o k))) (Bad 13 0) Good) ≡ and_then v (cond (ltb room (edges o k)) (Bad 13 0) Good)
+      go (Ok _) h = ap (λ (n : ℕ). cond (ltb room n) (Bad 13 0) Good) (h refl)
+      go (Err r) h = refl

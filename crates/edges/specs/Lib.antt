@@ -1,3 +1,4 @@
 pub mod EdgeList
-pub mod Places
+pub mod Listing
 pub mod Pieces
+pub mod Places

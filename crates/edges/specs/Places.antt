@@ -18,7 +18,7 @@ use Rattle.mesh.specs.Edges.{edge, up, rank}
 use Rattle.mesh.specs.Count.{count-lt}
 use Rattle.mesh.specs.Unlike.{ends-apart}
 use Rattle.mesh.specs.Ranks.{rep, rep-yes, rep-no, rep-is, halves}
-use Rattle.mesh.specs.declared.Verdict.TheVariants.{Good}
+use Rattle.mesh.specs.Verdict.{Good}
 use Rattle.edges.specs.EdgeList.{edge_list, rise, all-rise, length-rise, length-list}
 
 -- two numbers in order

@@ -2,10 +2,10 @@
 use Rattle.std.specs.Prelude.{◌≡◌, List, ℕ, length, Float}
 use Rattle.std.proofs.Common.{◌∙◌, ap}
 use Rattle.panel.specs.Format.{Reading, filed_of, offsets_after, corners_after, coords_after, Read}
-use Rattle.panel.specs.declared.Filed.{Filed}
+use Rattle.panel.specs.Filed.{Filed}
 use Rattle.writer.specs.File.{file_of, given}
 use Rattle.writer.specs.Answer.{bytes_after}
-use Rattle.writer.specs.declared.Written.{Written}
+use Rattle.writer.specs.Written.{Written}
 use Rattle.given.specs.Given.{steps_in, fours_after, StepsRead, given_written, GivenWrote}
 use Rattle.spelling.specs.Words.{filing, filed_words, writing, written_words}
 use Rattle.spelling.specs.declared.Filing.{Filing}

@@ -4,7 +4,7 @@ use Rattle.std.proofs.Common.{◌∙◌, ap}
 use Rattle.edges.specs.EdgeList.{Called, list_after}
 use Rattle.edges.specs.EdgeList as listing
 use Rattle.engine.specs.Result.{Outcome, words_of, answer_of, offsets_after, corners_after, coords_after, Came}
-use Rattle.engine.specs.declared.Answer.{Answer}
+use Rattle.engine.specs.Answer.{Answer}
 use Rattle.spelling.specs.Words.{spelled, listing_words}
 use Rattle.spelling.specs.declared.Words.{Words}
 

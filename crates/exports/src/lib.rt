@@ -15,6 +15,7 @@ ghost use Rattle.exports.specs.Told.{Told, Listed};
 ghost use Rattle.exports.specs.Runs.{Carried, LedgerTold};
 ghost use Rattle.exports.specs.Filing.{FileTold, StepsTold, WriteTold};
 
+use mesh::{Mesh, MeshMut};
 use spelling::{Filing, Words, Writing};
 
 // ---- the mesh
@@ -24,8 +25,12 @@ use spelling::{Filing, Words, Writing};
 pub extern "C" fn cg_check(offsets: &[u32], corners: &[u32], coords: &[f32]) -> Words
     ensures { spelled result ≡ verdict_words (verdict (tests offsets.now corners.now coords.now)) }
 {
-    let v = mesh::check(offsets, corners, coords);
-    spelling::spell_verdict(v)
+    let mesh = Mesh {
+        offsets,
+        corners,
+        coords,
+    };
+    spelling::spell_verdict(mesh::check(mesh))
 }
 
 // The same with 10 and 11.
@@ -33,8 +38,12 @@ pub extern "C" fn cg_check(offsets: &[u32], corners: &[u32], coords: &[f32]) -> 
 pub extern "C" fn cg_check_full(offsets: &[u32], corners: &[u32], coords: &[f32]) -> Words
     ensures { spelled result ≡ verdict_words (verdict (full_tests offsets.now corners.now coords.now)) }
 {
-    let v = fans::check_full(offsets, corners, coords);
-    spelling::spell_verdict(v)
+    let mesh = Mesh {
+        offsets,
+        corners,
+        coords,
+    };
+    spelling::spell_verdict(fans::check_full(mesh))
 }
 
 // The edges, listed into `out`.
@@ -47,8 +56,12 @@ pub extern "C" fn cg_edges(
 ) -> Words
     ensures { Listed (listing offsets.now corners.now coords.now (length out.old)) out.old result out.new }
 {
-    let l = edges::to_edges(offsets, corners, coords, out);
-    spelling::spell_listing(l)
+    let mesh = Mesh {
+        offsets,
+        corners,
+        coords,
+    };
+    spelling::spell_listing(edges::to_edges(mesh, out))
 }
 
 // ---- the operators
@@ -65,15 +78,17 @@ pub extern "C" fn cg_reverse(
 ) -> Words
     ensures { Told (reverse_outcome offsets.now corners.now coords.now (length out_offsets.old) (length out_corners.old) (length out_coords.old)) out_offsets.old out_corners.old out_coords.old result out_offsets.new out_corners.new out_coords.new }
 {
-    let a = operators::reverse(
+    let mesh = Mesh {
         offsets,
         corners,
         coords,
-        out_offsets,
-        out_corners,
-        out_coords,
-    );
-    spelling::spell(a)
+    };
+    let mut out = MeshMut {
+        offsets: out_offsets,
+        corners: out_corners,
+        coords: out_coords,
+    };
+    spelling::spell(operators::reverse(mesh, &mut out))
 }
 
 // The same, and y turned round.
@@ -88,15 +103,17 @@ pub extern "C" fn cg_reflect(
 ) -> Words
     ensures { Told (reflect_outcome offsets.now corners.now coords.now (length out_offsets.old) (length out_corners.old) (length out_coords.old)) out_offsets.old out_corners.old out_coords.old result out_offsets.new out_corners.new out_coords.new }
 {
-    let a = operators::reflect(
+    let mesh = Mesh {
         offsets,
         corners,
         coords,
-        out_offsets,
-        out_corners,
-        out_coords,
-    );
-    spelling::spell(a)
+    };
+    let mut out = MeshMut {
+        offsets: out_offsets,
+        corners: out_corners,
+        coords: out_coords,
+    };
+    spelling::spell(operators::reflect(mesh, &mut out))
 }
 
 // Triangles, by the shorter diagonals or the longer.
@@ -112,16 +129,17 @@ pub extern "C" fn cg_triangulate(
 ) -> Words
     ensures { Told (triangulate_outcome offsets.now corners.now coords.now shorter (length out_offsets.old) (length out_corners.old) (length out_coords.old)) out_offsets.old out_corners.old out_coords.old result out_offsets.new out_corners.new out_coords.new }
 {
-    let a = operators::triangulate(
+    let mesh = Mesh {
         offsets,
         corners,
         coords,
-        shorter,
-        out_offsets,
-        out_corners,
-        out_coords,
-    );
-    spelling::spell(a)
+    };
+    let mut out = MeshMut {
+        offsets: out_offsets,
+        corners: out_corners,
+        coords: out_coords,
+    };
+    spelling::spell(operators::triangulate(mesh, shorter, &mut out))
 }
 
 // One vertex an edge; one face a face, then one a vertex.
@@ -139,16 +157,17 @@ pub extern "C" fn cg_ambo(
     ensures { Told (ambo_outcome offsets.now corners.now coords.now (optional has_ratio ratio) (length out_offsets.old) (length out_corners.old) (length out_coords.old)) out_offsets.old out_corners.old out_coords.old result out_offsets.new out_corners.new out_coords.new }
 {
     let r = spelling::optional(has_ratio, ratio);
-    let a = operators::ambo(
+    let mesh = Mesh {
         offsets,
         corners,
         coords,
-        r,
-        out_offsets,
-        out_corners,
-        out_coords,
-    );
-    spelling::spell(a)
+    };
+    let mut out = MeshMut {
+        offsets: out_offsets,
+        corners: out_corners,
+        coords: out_coords,
+    };
+    spelling::spell(operators::ambo(mesh, r, &mut out))
 }
 
 // One vertex a face; one face a vertex.
@@ -163,15 +182,17 @@ pub extern "C" fn cg_dual(
 ) -> Words
     ensures { Told (dual_outcome offsets.now corners.now coords.now (length out_offsets.old) (length out_corners.old) (length out_coords.old)) out_offsets.old out_corners.old out_coords.old result out_offsets.new out_corners.new out_coords.new }
 {
-    let a = operators::dual(
+    let mesh = Mesh {
         offsets,
         corners,
         coords,
-        out_offsets,
-        out_corners,
-        out_coords,
-    );
-    spelling::spell(a)
+    };
+    let mut out = MeshMut {
+        offsets: out_offsets,
+        corners: out_corners,
+        coords: out_coords,
+    };
+    spelling::spell(operators::dual(mesh, &mut out))
 }
 
 // One vertex a picked face, and triangles to it. A mask that is not given picks every face.
@@ -195,19 +216,17 @@ pub extern "C" fn cg_kis(
 {
     let h = spelling::optional(has_height, height);
     let m = spelling::masked(has_arities, has_numbers, regular);
-    let a = operators::kis(
+    let mesh = Mesh {
         offsets,
         corners,
         coords,
-        h,
-        m,
-        arities,
-        numbers,
-        out_offsets,
-        out_corners,
-        out_coords,
-    );
-    spelling::spell(a)
+    };
+    let mut out = MeshMut {
+        offsets: out_offsets,
+        corners: out_corners,
+        coords: out_coords,
+    };
+    spelling::spell(operators::kis(mesh, h, m, arities, numbers, &mut out))
 }
 
 // One vertex a corner; inner faces, then hexagons.
@@ -225,16 +244,17 @@ pub extern "C" fn cg_chamfer(
     ensures { Told (chamfer_outcome offsets.now corners.now coords.now (optional has_ratio ratio) (length out_offsets.old) (length out_corners.old) (length out_coords.old)) out_offsets.old out_corners.old out_coords.old result out_offsets.new out_corners.new out_coords.new }
 {
     let r = spelling::optional(has_ratio, ratio);
-    let a = operators::chamfer(
+    let mesh = Mesh {
         offsets,
         corners,
         coords,
-        r,
-        out_offsets,
-        out_corners,
-        out_coords,
-    );
-    spelling::spell(a)
+    };
+    let mut out = MeshMut {
+        offsets: out_offsets,
+        corners: out_corners,
+        coords: out_coords,
+    };
+    spelling::spell(operators::chamfer(mesh, r, &mut out))
 }
 
 // One vertex a face, then two an edge; pentagons.
@@ -255,17 +275,17 @@ pub extern "C" fn cg_gyro(
 {
     let r = spelling::optional(has_ratio, ratio);
     let h = spelling::optional(has_height, height);
-    let a = operators::gyro(
+    let mesh = Mesh {
         offsets,
         corners,
         coords,
-        r,
-        h,
-        out_offsets,
-        out_corners,
-        out_coords,
-    );
-    spelling::spell(a)
+    };
+    let mut out = MeshMut {
+        offsets: out_offsets,
+        corners: out_corners,
+        coords: out_coords,
+    };
+    spelling::spell(operators::gyro(mesh, r, h, &mut out))
 }
 
 // Two vertices an edge; inner faces, then quadrilaterals.
@@ -283,16 +303,17 @@ pub extern "C" fn cg_propellor(
     ensures { Told (propellor_outcome offsets.now corners.now coords.now (optional has_ratio ratio) (length out_offsets.old) (length out_corners.old) (length out_coords.old)) out_offsets.old out_corners.old out_coords.old result out_offsets.new out_corners.new out_coords.new }
 {
     let r = spelling::optional(has_ratio, ratio);
-    let a = operators::propellor(
+    let mesh = Mesh {
         offsets,
         corners,
         coords,
-        r,
-        out_offsets,
-        out_corners,
-        out_coords,
-    );
-    spelling::spell(a)
+    };
+    let mut out = MeshMut {
+        offsets: out_offsets,
+        corners: out_corners,
+        coords: out_coords,
+    };
+    spelling::spell(operators::propellor(mesh, r, &mut out))
 }
 
 // One vertex a corner, then two an edge; hexagons, then inner faces.
@@ -313,17 +334,17 @@ pub extern "C" fn cg_whirl(
 {
     let r = spelling::optional(has_ratio, ratio);
     let h = spelling::optional(has_height, height);
-    let a = operators::whirl(
+    let mesh = Mesh {
         offsets,
         corners,
         coords,
-        r,
-        h,
-        out_offsets,
-        out_corners,
-        out_coords,
-    );
-    spelling::spell(a)
+    };
+    let mut out = MeshMut {
+        offsets: out_offsets,
+        corners: out_corners,
+        coords: out_coords,
+    };
+    spelling::spell(operators::whirl(mesh, r, h, &mut out))
 }
 
 // One vertex an edge, then one a corner; inner faces, then pentagons.
@@ -341,16 +362,17 @@ pub extern "C" fn cg_quinto(
     ensures { Told (quinto_outcome offsets.now corners.now coords.now (optional has_height height) (length out_offsets.old) (length out_corners.old) (length out_coords.old)) out_offsets.old out_corners.old out_coords.old result out_offsets.new out_corners.new out_coords.new }
 {
     let h = spelling::optional(has_height, height);
-    let a = operators::quinto(
+    let mesh = Mesh {
         offsets,
         corners,
         coords,
-        h,
-        out_offsets,
-        out_corners,
-        out_coords,
-    );
-    spelling::spell(a)
+    };
+    let mut out = MeshMut {
+        offsets: out_offsets,
+        corners: out_corners,
+        coords: out_coords,
+    };
+    spelling::spell(operators::quinto(mesh, h, &mut out))
 }
 
 // ---- lists and recipes
@@ -383,27 +405,28 @@ pub extern "C" fn cg_list(
 {
     let t = spelling::optional(has_ratio, ratio);
     let h = spelling::optional(has_height, height);
-    let a = called::list(
-        code,
-        t,
-        h,
-        has_arities,
-        arities,
-        regular,
-        io,
-        ic,
-        ip,
-        ao,
-        ac,
-        ap,
-        bo,
-        bc,
-        bp,
-        xo,
-        xc,
-        xp,
-    );
-    spelling::spell(a)
+    let given = spelling::listed(has_arities, arities);
+    let input = Mesh {
+        offsets: io,
+        corners: ic,
+        coords: ip,
+    };
+    let mut a = MeshMut {
+        offsets: ao,
+        corners: ac,
+        coords: ap,
+    };
+    let mut b = MeshMut {
+        offsets: bo,
+        corners: bc,
+        coords: bp,
+    };
+    let mut out = MeshMut {
+        offsets: xo,
+        corners: xc,
+        coords: xp,
+    };
+    spelling::spell(called::list(code, t, h, given, regular, input, &mut a, &mut b, &mut out))
 }
 
 // A recipe, four words a step; the ledger has four numbers a row.
@@ -426,10 +449,27 @@ pub extern "C" fn cg_recipe(
 ) -> Words
     ensures { LedgerTold (given_trail (length ledger.old / 4) steps.now (mesh io.now ic.now ip.now) (room ao.old ac.old ap.old) (room bo.old bc.old bp.old) (room xo.old xc.old xp.old)) ledger.old (mesh ao.old ac.old ap.old) (mesh bo.old bc.old bp.old) (mesh xo.old xc.old xp.old) result ledger.new (mesh ao.new ac.new ap.new) (mesh bo.new bc.new bp.new) (mesh xo.new xc.new xp.new) }
 {
-    let a = called::recipe(
-        steps, ledger, io, ic, ip, ao, ac, ap, bo, bc, bp, xo, xc, xp,
-    );
-    spelling::spell(a)
+    let input = Mesh {
+        offsets: io,
+        corners: ic,
+        coords: ip,
+    };
+    let mut a = MeshMut {
+        offsets: ao,
+        corners: ac,
+        coords: ap,
+    };
+    let mut b = MeshMut {
+        offsets: bo,
+        corners: bc,
+        coords: bp,
+    };
+    let mut out = MeshMut {
+        offsets: xo,
+        corners: xc,
+        coords: xp,
+    };
+    spelling::spell(called::recipe(steps, ledger, input, &mut a, &mut b, &mut out))
 }
 
 // ---- the panel file
@@ -444,8 +484,12 @@ pub extern "C" fn cg_panel_read(
 ) -> Filing
     ensures { FileTold (lent (reading bytes.now) (length out_offsets.old) (length out_corners.old) (length out_coords.old)) out_offsets.old out_corners.old out_coords.old result out_offsets.new out_corners.new out_coords.new }
 {
-    let f = panel::read(bytes, out_offsets, out_corners, out_coords);
-    spelling::spell_filed(f)
+    let mut out = MeshMut {
+        offsets: out_offsets,
+        corners: out_corners,
+        coords: out_coords,
+    };
+    spelling::spell_filed(panel::read(bytes, &mut out))
 }
 
 // Reads the steps of a panel file, four words a step.
@@ -453,8 +497,7 @@ pub extern "C" fn cg_panel_read(
 pub extern "C" fn cg_panel_steps(bytes: &[u8], out: &mut [[u32; 4]]) -> Filing
     ensures { StepsTold bytes.now (lent_steps (reading bytes.now) (length out.old)) out.old result out.new }
 {
-    let f = given::file_steps(bytes, out);
-    spelling::spell_filed(f)
+    spelling::spell_filed(given::file_steps(bytes, out))
 }
 
 // Writes a panel file of steps, four words a step, and a mesh.
@@ -468,6 +511,10 @@ pub extern "C" fn cg_panel_write(
 ) -> Writing
     ensures { WriteTold steps.now offsets.now corners.now coords.now out.old result out.new }
 {
-    let w = given::write(steps, offsets, corners, coords, out);
-    spelling::spell_written(w)
+    let mesh = Mesh {
+        offsets,
+        corners,
+        coords,
+    };
+    spelling::spell_written(given::write(steps, mesh, out))
 }

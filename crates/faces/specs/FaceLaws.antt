@@ -1,25 +1,16 @@
 -- Laws of one face: the fold goes by index, and a part of the corners stays in reach. Assumes nothing.
-use Rattle.std.specs.Prelude.{◌≡◌, refl, ℕ, zero, suc, ◌+◌, ◌-◌, ◌*◌, ◌≤◌, ◌<◌, List, length, get_or, take, drop, set, T, pos, Float}
-use Rattle.std.proofs.Common.{sym, ap, ◌∙◌, add-one, arith, length-take, length-drop, get_or-take, get_or-drop, le→leb}
+use Rattle.std.specs.Prelude.{◌≡◌, ℕ, suc, ◌+◌, ◌*◌, ◌≤◌, ◌<◌, List, length, get_or, take, drop, T, pos, Float}
+use Rattle.std.proofs.Common.{sym, ap, add-one, arith, length-take, length-drop, get_or-take, get_or-drop, le→leb}
 use Rattle.std.proofs.lemmas.List.Edits.{sets}
 use Rattle.std.specs.Float.{binary32}
 use Rattle.std.specs.Float.Ieee.{in_float}
 use Rattle.point.specs.declared.Point.{Point}
-use Rattle.point.specs.Vector.{zero_p, add_p, div_p}
-use Rattle.faces.specs.Face.{point_at, InReach, sum_to, count_f, centroid_of, put_at, coords_of}
-
-pub sum-none : (xs : List Float) (vs : List ℕ) → sum_to xs vs 0 ≡ zero_p
-unfolding sum_to
-sum-none xs vs = refl
+use Rattle.point.specs.Vector.{add_p}
+use Rattle.faces.specs.Face.{point_at, InReach, sum_to, put_at, coords_of}
 
 pub sum_step : (xs : List Float) (vs : List ℕ) (i : ℕ) → add_p (sum_to xs vs i) (point_at xs (get_or vs i 0)) ≡ sum_to xs vs (i + 1)
 unfolding sum_to
 sum_step xs vs i = ap (sum_to xs vs) (sym (add-one i))
-
--- from the parts, as the code has them
-pub centroid-is : (xs : List Float) (vs : List ℕ) (i : ℕ) (s : Point) → i ≡ length vs → s ≡ sum_to xs vs i → div_p s (count_f (length vs)) ≡ centroid_of xs vs
-unfolding centroid_of
-centroid-is xs vs i s e h = ap (λ (p : Point). div_p p (count_f (length vs))) (h ∙ ap (sum_to xs vs) e)
 
 -- a whole number up to 2 ^ 24 is a float
 pub count_fits : (n : ℕ) → n ≤ 60000 → T (in_float binary32 (pos n))

@@ -1,6 +1,5 @@
 pub mod Face
 pub mod FaceLaws
 pub mod Normal
-pub mod NormalLaws
 pub mod Table
 pub mod Regular

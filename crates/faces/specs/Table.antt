@@ -2,7 +2,7 @@
 use Rattle.std.specs.Prelude.{◌≡◌, refl, List, [], ◌∷◌, map, ℕ, Float}
 use Rattle.std.specs.Int.Count.{count_leading_zeros}
 use Rattle.std.specs.Float.{binary32}
-use Rattle.std.specs.Float.Ieee.{of_bits, of_int, add, sub, mul, div, lt, round, to_bits}
+use Rattle.std.specs.Float.Ieee.{of_bits, of_int, add, sub, mul, div, lt, to_bits}
 use Rattle.root.specs.Sqrt.{root32}
 use Rattle.point.specs.declared.Point.{Point}
 use Rattle.faces.specs.Face.{sum_to, centroid_of}

@@ -6,11 +6,11 @@ use Rattle.steps.specs.declared.Step.{Step}
 use Rattle.words.specs.Words.{word_at}
 use Rattle.parts.specs.StepWords.{good_step, step_with}
 use Rattle.panel.specs.Format.{run, Reading, refused, holds, filed_of, fillers}
-use Rattle.panel.specs.declared.Filed.{Filed}
+use Rattle.panel.specs.Filed.{Filed}
 use Rattle.writer.specs.File.{file_of, given}
 use Rattle.writer.specs.Answer.{written_of, bytes_after}
-use Rattle.writer.specs.declared.Written.{Written}
-use Rattle.writer.specs.declared.Written.TheVariants as written
+use Rattle.writer.specs.Written.{Written}
+use Rattle.writer.specs.Written as written
 
 -- ---- four words: code, flags, ratio, height
 

@@ -1,23 +1,27 @@
 -- Laws of steps given as words in the shape of the code's needs, and that a file's steps, so given, are the file's. Assumes nothing.
-use Rattle.std.specs.Prelude.{◌≡◌, refl, Bool, true, false, cond, not, ◌&&◌, List, [], ◌∷◌, ◌++◌, map, ℕ, zero, suc, ◌+◌, ◌-◌, ◌*◌, ◌<◌, ◌≤◌, min, length, get_or, set, take, ltb, eqb, Float}
-use Rattle.std.proofs.Common.{sym, ◌∙◌, ap, ap₂, subst, true≢false, not-suc-le-zero, le_of_suc-le-suc, add-one, arith, length-take, length-take-le, take_all, take-suc, lt-ltb, le-ltb, ltb-true, ltb-false}
+use Rattle.std.specs.Prelude.{Ok, Err, Option, Some, None}
+use Rattle.std.specs.Prelude.{◌≡◌, refl, Bool, true, false, cond, not, ◌&&◌, List, [], ◌∷◌, ◌++◌, map, ℕ, zero, suc, ◌+◌, ◌-◌, ◌*◌, ◌/◌, ◌<◌, ◌≤◌, min, length, get_or, set, take, ltb, eqb, Float}
+use Rattle.std.proofs.Common.{sym, ◌∙◌, ap, ap₂, subst, true≢false, not-suc-le-zero, le_of_suc-le-suc, le_refl, add-one, take-take, arith, length-take, length-take-le, take_all, take-suc, lt-ltb, le-ltb, ltb-true, ltb-false}
 use Rattle.std.proofs.lemmas.List.Edits.{sets}
-use Rattle.slices.specs.First.{first, any, first-is, not-any}
+use Rattle.slices.specs.First.{first, any, first-is, not-any, lowest, found_at, found_none}
 use Rattle.slices.specs.Lists.{over, sets-push, sets_over}
 use Rattle.steps.specs.declared.Step.{Step}
 use Rattle.words.specs.Words.{word_at, whole_at}
 use Rattle.parts.specs.StepWords.{good_step}
-use Rattle.parts.specs.declared.Part.{Part}
-use Rattle.parts.specs.declared.Part.TheVariants.{Has, Stops}
+use Rattle.parts.specs.Part.{Part}
+use Rattle.parts.specs.Part.{Has, Stops}
 use Rattle.parts.specs.Parts.{and_then, count_at, step_says, whole_says, items, section, faces}
 use Rattle.parts.specs.Laws.{has-is, apart}
 use Rattle.panel.specs.Format.{settle, positions_at, faces_at, end_at, ending, checked, run, step_at, Contents, contents, Reading, refused, holds, reading_as, reading, filed_of, fillers}
 use Rattle.panel.specs.Laws.{length_run, Known, KnownAs, known, filed-is}
-use Rattle.panel.specs.declared.Filed.{Filed}
-use Rattle.panel.specs.declared.Filed.TheVariants.{Fine, Refused}
-use Rattle.writer.specs.Answer.{Wrote}
-use Rattle.writer.specs.declared.Written.{Written}
-use Rattle.writer.specs.declared.Written.TheVariants as written
+use Rattle.panel.specs.Filed.{Filed}
+use Rattle.panel.specs.Filed.{Fine, Refused}
+use Rattle.mesh.specs.Mesh.{faces as faces_count, faces_of}
+use Rattle.mesh.specs.Tests.{wrong_shape}
+use Rattle.writer.specs.File.{given, file_of}
+use Rattle.writer.specs.Answer.{Wrote, written_of, bytes_after}
+use Rattle.writer.specs.Written.{Written}
+use Rattle.writer.specs.Written as written
 use Rattle.given.specs.Given.{from_words, is_step, unknown, steps_in, strange, strange_at, four_at, lent_steps, fours_after, StepsRead, given_written, GivenWrote}
 
 -- ---- the steps given
@@ -76,11 +80,18 @@ is_known ws i g e h = ap not (sym e ∙ h)
 pub first-few : (ws : List (List ℕ)) → first (unknown ws) (length ws) ≤ length ws
 first-few ws = (first-is (unknown ws) (length ws)).within
 
-pub strange-many : (ws : List (List ℕ)) → 16 < length ws → false ≡ strange ws
+pub strange-many : (ws : List (List ℕ)) → 16 < length ws → None ≡ cond (strange ws) (Some (strange_at ws)) None
 strange-many ws h = rw (lt-ltb 16 (length ws) h) refl
 
-pub strange-few : (ws : List (List ℕ)) (i : ℕ) → length ws ≤ 16 → i ≡ first (unknown ws) (length ws) → ltb i (length ws) ≡ strange ws
-strange-few ws i h e = rw (le-ltb 16 (length ws) h) (ap (λ (j : ℕ). ltb j (length ws)) e)
+pub strange-none : (ws : List (List ℕ)) → length ws ≤ 16 → None ≡ lowest (unknown ws) (length ws) → None ≡ cond (strange ws) (Some (strange_at ws)) None
+strange-none ws h e =
+    let n = found_none e refl in
+    rw (le-ltb 16 (length ws) h, le-ltb (first (unknown ws) (length ws)) (length ws) (omega (arith, n.first))) refl
+
+pub strange-some : (ws : List (List ℕ)) (i : ℕ) → length ws ≤ 16 → Some i ≡ lowest (unknown ws) (length ws) → Some (16 * i) ≡ cond (strange ws) (Some (strange_at ws)) None
+strange-some ws i h e =
+    let n = found_at e refl in
+    rw (le-ltb 16 (length ws) h, lt-ltb (first (unknown ws) (length ws)) (length ws) (omega (arith, n.first, n.within))) (ap (λ (j : ℕ). Some (16 * j)) n.first)
 
 pub strange-by : (x y : Bool) → not x && y ≡ true → (x ≡ false) × (y ≡ true)
 strange-by true y e = absurd (true≢false (sym e))
@@ -88,18 +99,6 @@ strange-by false y e = (refl, e)
 
 pub strange-short : (ws : List (List ℕ)) (b : Bool) → b ≡ strange ws → b ≡ true → length ws ≤ 16
 strange-short ws b e h = ltb-false 16 (length ws) (strange-by (ltb 16 (length ws)) (any (unknown ws) (length ws)) (sym e ∙ h)).0
-
--- the place of the first
-pub place-yes :
-    (ws : List (List ℕ)) {b : Bool} {i p : ℕ} → b ≡ strange ws → b ≡ true → i ≡ first (unknown ws) (length ws) → p ≡ 16 * i →
-    p ≡ cond (strange ws) (strange_at ws) 0
-place-yes ws e h q w = w ∙ ap (λ (j : ℕ). 16 * j) q ∙ sym (ap (λ (y : Bool). cond y (strange_at ws) 0) (sym e ∙ h))
-
-pub place-no : (ws : List (List ℕ)) {b : Bool} → b ≡ strange ws → b ≡ false → 0 ≡ cond (strange ws) (strange_at ws) 0
-place-no ws e h = sym (ap (λ (y : Bool). cond y (strange_at ws) 0) (sym e ∙ h))
-
-pub place_is : (ws : List (List ℕ)) {p : ℕ} → strange ws ≡ true → p ≡ cond (strange ws) (strange_at ws) 0 → p ≡ strange_at ws
-place_is ws h e = e ∙ ap (λ (y : Bool). cond y (strange_at ws) 0) h
 
 -- ---- the three ways through a file's steps
 
@@ -149,19 +148,84 @@ module _ (s : List ℕ) (l : List (List ℕ)) {n v f c : ℕ} (q : Filed) (w : �
 
 -- ---- a file written
 
-pub wrote-strange :
-    (ws : List (List ℕ)) (o k : List ℕ) (x : List Float) (out : List ℕ) {b : Bool} {p : ℕ} → b ≡ strange ws → b ≡ true →
-    p ≡ cond (strange ws) (strange_at ws) 0 → GivenWrote ws o k x out (written.Refused 17 p) out
-unfolding given_written
-wrote-strange ws o k x out e h q = record { answer = rw (sym e ∙ h) (ap (λ (y : ℕ). written.Refused 17 y) (place_is ws (sym e ∙ h) q)); bytes = refl }
+-- the place is one, or none
+pub strange_told : (ws : List (List ℕ)) {p : ℕ} → Some p ≡ cond (strange ws) (Some (strange_at ws)) None → (strange ws ≡ true) × (p ≡ strange_at ws)
+strange_told ws {p} e = by (strange ws) refl e
+  where
+    by : (b : Bool) → strange ws ≡ b → Some p ≡ cond b (Some (strange_at ws)) None → (strange ws ≡ true) × (p ≡ strange_at ws)
+    by true h e = (h, cc)
+    by false h e = absurd (let z : ◌≡◌ {A = ℕ} 0 1 = cc in omega arith)
 
-pub wrote-plain :
-    (ws : List (List ℕ)) (o k : List ℕ) (x : List Float) (out out' : List ℕ) (r : Written) {b : Bool} {s : List Step} → b ≡ strange ws → b ≡ false →
-    s ≡ steps_in ws → Wrote s (length ws) o k x out r out' → GivenWrote ws o k x out r out'
+pub strange_not : (ws : List (List ℕ)) → None ≡ cond (strange ws) (Some (strange_at ws)) None → strange ws ≡ false
+strange_not ws e = by (strange ws) refl e
+  where
+    by : (b : Bool) → strange ws ≡ b → None ≡ cond b (Some (strange_at ws)) None → strange ws ≡ false
+    by true h e = absurd (let z : ◌≡◌ {A = ℕ} 0 1 = cc in omega arith)
+    by false h e = h
+
+pub wrote-strange :
+    (ws : List (List ℕ)) (o k : List ℕ) (x : List Float) (out : List ℕ) {p : ℕ} → Some p ≡ cond (strange ws) (Some (strange_at ws)) None →
+    GivenWrote ws o k x out (written.Refused 17 p) out
 unfolding given_written
-wrote-plain ws o k x out out' r e h q u =
-    let z : Wrote (steps_in ws) (length ws) o k x out r out' = subst (λ (y : List Step). Wrote y (length ws) o k x out r out') q u in
-    record { answer = rw (sym e ∙ h) z.answer; bytes = z.bytes }
+wrote-strange ws o k x out e = let t = strange_told ws e in record { answer = rw t.0 (ap (λ (y : ℕ). written.Refused 17 y) t.1); bytes = refl }
+
+-- ---- what the writer says of steps, for a slice of them
+
+module _ (o k : List ℕ) (x : List Float) (room : ℕ) where
+  -- the writer's answer where the limits of a file are met up to the number of steps, for what it would write
+  abbrev by_limits : Contents → Written
+  by_limits q =
+      cond (ltb 400 (faces_count o)) (written.Refused 2 0)
+      (cond (ltb 1200 (length k)) (written.Refused 2 1)
+      (cond (ltb 400 (length x / 3)) (written.Refused 2 2)
+      (cond (ltb room (length (file_of q))) (written.Refused 13 0) (written.Done (length (file_of q))))))
+
+  abbrev by_shape : Written → Written
+  by_shape w = cond (any (wrong_shape o (length k) (length x)) 2) (written.Refused 1 (first (wrong_shape o (length k) (length x)) 2)) w
+
+  -- steps that are not taken are not read
+  written-few : (l : List Step) (n : ℕ) → written_of (take n l) n o k x room ≡ written_of l n o k x room
+  unfolding written_of given
+  written-few l n = ap (λ (t : List Step). by_shape (cond (ltb 16 n) (written.Refused 2 3) (by_limits (record { steps = t; faces = faces_of o k; coords = x })))) (take-take n n l (le_refl n))
+
+  -- more than 16 are refused by their number alone
+  many-is : (l : List Step) (n : ℕ) → 16 < n → written_of l n o k x room ≡ by_shape (written.Refused 2 3)
+  unfolding written_of
+  many-is l n h = ap (λ (b : Bool). by_shape (cond b (written.Refused 2 3) (by_limits (given l n o k x)))) (lt-ltb 16 n h)
+
+refused-bytes : (o k : List ℕ) (x : List Float) (r : Written) (new out : List ℕ) → r ≡ by_shape o k x 0 (written.Refused 2 3) → bytes_after r new out ≡ out
+refused-bytes o k x r new out e = ap (λ (y : Written). bytes_after y new out) e ∙ go (any (wrong_shape o (length k) (length x)) 2)
+  where
+    go : (b : Bool) → bytes_after (cond b (written.Refused 1 (first (wrong_shape o (length k) (length x)) 2)) (written.Refused 2 3)) new out ≡ out
+    go true = refl
+    go false = refl
+
+pub wrote-few :
+    (ws : List (List ℕ)) (o k : List ℕ) (x : List Float) (out out' : List ℕ) (r : Written) {s : List Step} → None ≡ cond (strange ws) (Some (strange_at ws)) None →
+    s ≡ steps_in ws → length ws ≤ length s → Wrote (take (length ws) s) (length (take (length ws) s)) o k x out r out' → GivenWrote ws o k x out r out'
+unfolding given_written given
+wrote-few ws o k x out out' r {s} e q h u =
+    let n : ℕ = length ws in
+    let w : Wrote (take n s) n o k x out r out' = subst (λ (m : ℕ). Wrote (take n s) m o k x out r out') (length-take-le n s h) u in
+    let z : Wrote s n o k x out r out' =
+    record {
+      answer = w.answer ∙ written-few o k x (length out) s n;
+      bytes = w.bytes ∙ ap (λ (t : List Step). bytes_after r (file_of (record { steps = t; faces = faces_of o k; coords = x })) out) (take-take n n s (le_refl n));
+    }
+    in
+    let y : Wrote (steps_in ws) n o k x out r out' = subst (λ (t : List Step). Wrote t n o k x out r out') q z in
+    record { answer = rw (strange_not ws e) y.answer; bytes = y.bytes }
+
+pub wrote-many :
+    (ws : List (List ℕ)) (o k : List ℕ) (x : List Float) (out out' : List ℕ) (r : Written) (l : List Step) → None ≡ cond (strange ws) (Some (strange_at ws)) None →
+    16 < length ws → 16 < length l → Wrote l (length l) o k x out r out' → GivenWrote ws o k x out r out'
+unfolding given_written
+wrote-many ws o k x out out' r l e h g u =
+    let t : r ≡ by_shape o k x 0 (written.Refused 2 3) = u.answer ∙ many-is o k x (length out) l (length l) g in
+    record {
+      answer = rw (strange_not ws e) (t ∙ sym (many-is o k x (length out) (steps_in ws) (length ws) h));
+      bytes = u.bytes ∙ refused-bytes o k x r _ out t ∙ sym (refused-bytes o k x r _ out t);
+    }
 
 -- ---- a file's steps, read as words and given, are the file's
 
@@ -194,30 +258,30 @@ fours-good s at (suc n) x e i h = go (step_says s at) refl e (λ q j k. fours-go
         (p : Part) → step_says s at ≡ p → and_then p (λ _. items (step_says s) 16 (at + 16) n) ≡ Has x →
         (items (step_says s) 16 (at + 16) n ≡ Has x → (j : ℕ) → j < n → unknown (run (four_at s) 16 (at + 16) n) j ≡ false) →
         (i : ℕ) → i < suc n → unknown (four_at s at ∷ run (four_at s) 16 (at + 16) n) i ≡ false
-    go (Stops a b) q e r i h = absurd (apart e)
-    go (Has y) q e r zero h = ap not (four-good s at y q)
-    go (Has y) q e r (suc i) h = r e i (le_of_suc-le-suc h)
+    go (Err r1) q e r i h = absurd (apart e)
+    go (Ok y) q e r zero h = ap not (four-good s at y q)
+    go (Ok y) q e r (suc i) h = r e i (le_of_suc-le-suc h)
 
 -- the steps' part of a file that passes
 abbrev Passed : List ℕ → Filed → Type 0
-Passed s (Fine n v f c) = (x : ℕ) × (items (step_says s) 16 4 n ≡ Has x)
-Passed s (Refused a b) = Unit
+Passed s (Ok h) = (x : ℕ) × (items (step_says s) 16 4 h.steps ≡ Has x)
+Passed s (Err r) = Unit
 
 settled : (s : List ℕ) (p : Part) (k : ℕ → Filed) → ((n : ℕ) → Passed s (k n)) → Passed s (settle p k)
-settled s (Has n) k h = h n
-settled s (Stops a b) k h = tt
+settled s (Ok n) k h = h n
+settled s (Err r) k h = tt
 
 section-items : (s : List ℕ) (n : ℕ) → section s 0 16 16 (step_says s) ≡ Has n → (x : ℕ) × (items (step_says s) 16 4 n ≡ Has x)
 unfolding section
 section-items s n e = go (count_at s 0 16) e
   where
     inner : (m : ℕ) (p : Part) → items (step_says s) 16 4 m ≡ p → and_then p (λ _. Has m) ≡ Has n → (x : ℕ) × (items (step_says s) 16 4 n ≡ Has x)
-    inner m (Has x) q e = (x, ap (items (step_says s) 16 4) (sym (has-is e)) ∙ q)
-    inner m (Stops a b) q e = absurd (apart e)
+    inner m (Ok x) q e = (x, ap (items (step_says s) 16 4) (sym (has-is e)) ∙ q)
+    inner m (Err r) q e = absurd (apart e)
 
     go : (p : Part) → and_then p (λ m. and_then (items (step_says s) 16 4 m) (λ _. Has m)) ≡ Has n → (x : ℕ) × (items (step_says s) 16 4 n ≡ Has x)
-    go (Has m) e = inner m (items (step_says s) 16 4 m) refl e
-    go (Stops a b) e = absurd (apart e)
+    go (Ok m) e = inner m (items (step_says s) 16 4 m) refl e
+    go (Err r) e = absurd (apart e)
 
 passed : (s : List ℕ) → Passed s (checked s)
 unfolding checked ending
@@ -228,8 +292,8 @@ passed s = go (section s 0 16 16 (step_says s)) refl
     end n v f c e false = tt
 
     go : (p : Part) → section s 0 16 16 (step_says s) ≡ p → Passed s (settle p (λ n. settle (section s (positions_at n) 400 12 (whole_says s 12)) (λ v. settle (count_at s (faces_at n v) 400) (λ f. settle (faces s (faces_at n v + 4) 0 f) (λ c. ending s n v f c)))))
-    go (Stops a b) e = tt
-    go (Has n) e =
+    go (Err r) e = tt
+    go (Ok n) e =
         settled s (section s (positions_at n) 400 12 (whole_says s 12)) _ (λ v. settled s (count_at s (faces_at n v) 400) _ (λ f. settled s (faces s (faces_at n v + 4) 0 f) _ (λ c. end n v f c e (eqb (length s) (end_at n v f c)))))
 
 -- what file_steps stores of a file
@@ -272,5 +336,5 @@ unfolding reading
 file-given s q e = go (checked s) refl e
   where
     go : (x : Filed) → checked s ≡ x → reading_as s x ≡ holds q → FileGiven s q
-    go (Fine n v f c) h e = subst (FileGiven s) (ap (held_of q) e) (given-fine s n v f c h)
-    go (Refused a b) h e = absurd (let z : ◌≡◌ {A = ℕ} 0 1 = cc in omega arith)
+    go (Ok h1) h e = subst (FileGiven s) (ap (held_of q) e) (given-fine s h1.steps h1.positions h1.faces h1.corners h)
+    go (Err r) h e = absurd (let z : ◌≡◌ {A = ℕ} 0 1 = cc in omega arith)

@@ -8,7 +8,7 @@ use Rattle.picks.specs.declared.Mask.{Mask}
 use Rattle.rule.specs.Flat.{flat, offsets_of, length-offsets}
 use Rattle.engine.specs.Result.{Outcome, refused, result, counts_of, answer_of, offsets_after, corners_after, coords_after, Came}
 use Rattle.engine.specs.ResultLaws.{whole-good}
-use Rattle.engine.specs.declared.Answer.{Answer}
+use Rattle.engine.specs.Answer.{Answer}
 use Rattle.steps.specs.Steps.{Mesh, Masks, mesh, masks, room, step_outcome}
 use Rattle.steps.specs.declared.Step.{Step}
 use Rattle.lasting.specs.Demand3.{steady, faces_in, Passes, Lasts, front, Answers}

@@ -1,5 +1,5 @@
 -- Demand 3: of one step, of every list of steps, and V - E + F at the end. Assumes nothing.
-use Rattle.std.specs.Prelude.{◌≡◌, refl, Bool, true, false, cond, ℕ, ◌+◌, ◌*◌, Float}
+use Rattle.std.specs.Prelude.{◌≡◌, refl, Bool, true, false, cond, ℕ, ◌+◌, ◌*◌, Float, None}
 use Rattle.std.proofs.Common.{sym, ap, subst, true≢false, arith}
 use mathlib.Core.List.{List, [], ◌∷◌}
 use Rattle.mesh.specs.Edges.{edges}
@@ -8,7 +8,6 @@ use Rattle.rule.specs.Flat.{flat, offsets_of}
 use Rattle.engine.specs.Result.{Outcome, refused, result}
 use Rattle.operators.specs.Numbers.{third, half, ratio_of, height_of, quinto_height}
 use Rattle.operators.specs.Operators.{kis_outcome, chamfer_outcome, gyro_outcome, propellor_outcome, whirl_outcome, quinto_outcome}
-use Rattle.operators.specs.declared.Number.TheVariants.{Absent}
 use Rattle.steps.specs.Steps.{Mesh, Room, Masks, mesh, step_on}
 use Rattle.steps.specs.declared.Step.{Step}
 use Rattle.steps.specs.declared.Step.TheVariants.{Ambo, Chamfer, Dual, Gyro, Kis, Propellor, Quinto, Reflect, Reverse, Whirl, Triangulate}
@@ -44,19 +43,19 @@ module _ (m : Masks) (w : Mesh) (r : Room) (p : Passes w) where
   step : (a : Step) → steady a ≡ true → Lasts m a w (step_on m a w r)
   unfolding chamfer_outcome gyro_outcome propellor_outcome whirl_outcome quinto_outcome kis_outcome
   step (Chamfer t) h =
-      call-lasts m (Chamfer t) w p (grown w _ (chamfer-keeps o k x s) (chamfer-long m.given [] [] o k x (ratio_of half t))) (times 4) t Absent r.offsets r.corners r.coords
+      call-lasts m (Chamfer t) w p (grown w _ (chamfer-keeps o k x s) (chamfer-long m.given [] [] o k x (ratio_of half t))) (times 4) t None r.offsets r.corners r.coords
   step (Gyro t y) h =
       call-lasts m (Gyro t y) w p (grown w _ (gyro-keeps o k x s) (gyro-long m.given [] [] o k x (ratio_of third t) (height_of y))) (times 5) t y r.offsets r.corners r.coords
   step (Propellor t) h =
-      call-lasts m (Propellor t) w p (grown w _ (propellor-keeps o k x s) (propellor-long m.given [] [] o k x (ratio_of third t))) (times 5) t Absent r.offsets r.corners r.coords
+      call-lasts m (Propellor t) w p (grown w _ (propellor-keeps o k x s) (propellor-long m.given [] [] o k x (ratio_of third t))) (times 5) t None r.offsets r.corners r.coords
   step (Whirl t y) h =
       call-lasts m (Whirl t y) w p (grown w _ (whirl-keeps o k x s) (whirl-long m.given [] [] o k x (ratio_of third t) (height_of y))) (times 7) t y r.offsets r.corners r.coords
   step (Quinto y) h =
-      call-lasts m (Quinto y) w p (grown w _ (quinto-keeps o k x s) (quinto-long m.given [] [] o k x (quinto_height y))) (times 6) Absent y r.offsets r.corners r.coords
+      call-lasts m (Quinto y) w p (grown w _ (quinto-keeps o k x s) (quinto-long m.given [] [] o k x (quinto_height y))) (times 6) None y r.offsets r.corners r.coords
   step (Kis y) h =
       call-lasts m (Kis y) w p
       (grown w _ (kis-keeps m.given m.arities m.numbers o k x s) (kis-long m.given m.arities m.numbers o k x (height_of y)))
-      (ap (λ (e : ℕ). e + corners_picked m w) (edges-half w p)) Absent y r.offsets r.corners r.coords
+      (ap (λ (e : ℕ). e + corners_picked m w) (edges-half w p)) None y r.offsets r.corners r.coords
   step (Ambo t) h = absurd (true≢false (sym h))
   step Dual h = absurd (true≢false (sym h))
   step Reflect h = absurd (true≢false (sym h))

@@ -1,6 +1,6 @@
 -- Meshes that pass, and a step that is done on each, by computing, so that no statement is empty: T, a torus, and two Ts that share a vertex.
 -- Assumes nothing.
-use Rattle.std.specs.Prelude.{◌≡◌, refl, Bool, true, false, List, [], ◌∷◌, ◌++◌, map, ℕ, ◌+◌, Float}
+use Rattle.std.specs.Prelude.{◌≡◌, refl, Bool, true, false, List, [], ◌∷◌, ◌++◌, map, ℕ, ◌+◌, Float, None}
 use Rattle.std.specs.Int.Count.{count_leading_zeros}
 use Rattle.std.specs.Float.{binary32}
 use Rattle.std.specs.Float.Ieee.{to_bits, of_bits, of_int, add, sub, mul, div, neg, lt}
@@ -20,7 +20,6 @@ use Rattle.engine.specs.Result.{Outcome, refused, result, cramped, room_tests, f
 use Rattle.operators.specs.Numbers.{loose_at, number_tests}
 use Rattle.operators.specs.Operators.{chamfer_outcome, gyro_outcome, kis_outcome, propellor_outcome, quinto_outcome, whirl_outcome, chamfer_coords, gyro_coords, kis_coords, propellor_coords, quinto_coords, whirl_coords}
 use Rattle.operators.specs.Pieces.{tetra_offsets, tetra_corners, tetra_coords}
-use Rattle.operators.specs.declared.Number.TheVariants.{Absent}
 use Rattle.closed.specs.Faces.{chamfer_faces, gyro_faces, kis_faces, propellor_faces, quinto_faces, whirl_faces}
 use Rattle.steps.specs.Steps.{Mesh, Room, mesh, masks, step_on}
 use Rattle.steps.specs.declared.Step.{Step}
@@ -92,7 +91,7 @@ abbrev pub done_on : Mesh → Step → Bool
 done_on w s = done (step_on (masks (record { arities = false; numbers = false; regular = false }) [] []) s w wide)
 
 pub pieces-done :
-    map (done_on tetra) (Chamfer Absent ∷ Gyro Absent Absent ∷ Kis Absent ∷ Propellor Absent ∷ Quinto Absent ∷ Whirl Absent Absent ∷ []) ++ map (λ w. done_on w (Propellor Absent)) (torus ∷ pinched ∷ [])
+    map (done_on tetra) (Chamfer None ∷ Gyro None None ∷ Kis None ∷ Propellor None ∷ Quinto None ∷ Whirl None None ∷ []) ++ map (λ w. done_on w (Propellor None)) (torus ∷ pinched ∷ [])
     ≡ true ∷ true ∷ true ∷ true ∷ true ∷ true ∷ true ∷ true ∷ []
 unfolding chamfer_outcome gyro_outcome kis_outcome propellor_outcome quinto_outcome whirl_outcome chamfer_faces gyro_faces kis_faces propellor_faces quinto_faces whirl_faces chamfer_coords gyro_coords kis_coords propellor_coords quinto_coords whirl_coords outcome table asked room_tests finite_tests cramped number_tests loose_at verdict tests size_tests face_tests edge_tests wrong_offsets wrong_shape too_many first count each window mate next prev face_of up rank turn vertex_at made inner splits flat change_of spot_of tip_of middle_of picked allows centroid_of sum_to taken corner_normal tally_to averaged average_normal_of root32 root_bits count_leading_zeros to_bits of_bits of_int add sub mul div lt neg
 pieces-done = refl

@@ -1,20 +1,19 @@
 -- A table that can only refuse for an excused number, and what a call with it comes to: one lemma for the six. Assumes nothing.
-use Rattle.std.specs.Prelude.{◌≡◌, refl, Bool, true, false, cond, List, [], ◌∷◌, ◌++◌, ℕ, ◌+◌, ◌*◌, ◌/◌, length, Float}
-use Rattle.std.proofs.Common.{sym, ◌∙◌, subst, arith}
+use Rattle.std.specs.Prelude.{◌≡◌, refl, Ok, Err, Bool, true, false, cond, List, [], ◌∷◌, ◌++◌, ℕ, ◌*◌, ◌/◌, length, Float}
+use Rattle.std.proofs.Common.{sym, ◌∙◌, ap, subst, arith}
 use Rattle.slices.specs.First.{first, any}
 use Rattle.mesh.specs.Mesh.{faces}
 use Rattle.mesh.specs.Edges.{edges}
 use Rattle.mesh.specs.Ranks.{halves}
-use Rattle.mesh.specs.Tests.{Test, verdict, verdict-append, both-good, tests-good}
-use Rattle.mesh.specs.declared.Verdict.{Verdict}
-use Rattle.mesh.specs.declared.Verdict.TheVariants.{Good, Bad}
+use Rattle.mesh.specs.Tests.{Test, verdict, number_of, verdict-append, both-good, tests-good}
+use Rattle.mesh.specs.Verdict.{Verdict, Good, Bad}
 use Rattle.rule.specs.Named.{positions}
 use Rattle.rule.specs.Flat.{flat, offsets_of, length-offsets}
 use Rattle.engine.specs.Result.{room_tests, finite_tests, asked, table, outcome_of, outcome}
 use Rattle.engine.specs.ResultLaws.{by-groups}
 use Rattle.engine.specs.declared.Asks.TheVariants.{Closed}
 use Rattle.operators.specs.Numbers.{number_tests}
-use Rattle.operators.specs.declared.Number.{Number}
+use Rattle.operators.specs.Number.{Number}
 use Rattle.steps.specs.Steps.{Mesh, Masks, mesh}
 use Rattle.steps.specs.declared.Step.{Step}
 use Rattle.closed.specs.Keeps.{Keeps}
@@ -27,7 +26,7 @@ Excusing [] = Unit
 Excusing (r ∷ rs) = (excused r.number ≡ true) × Excusing rs
 
 which : (b : Bool) (m q n p : ℕ) (v : Verdict) → excused m ≡ true → (v ≡ Bad n p → excused n ≡ true) → cond b (Bad m q) v ≡ Bad n p → excused n ≡ true
-which true m q n p v e f h = let z : m ≡ n = cc in rw z at e
+which true m q n p v e f h = let z : m ≡ n = ap number_of h in rw z at e
 which false m q n p v e f h = f h
 
 excused-by : (rs : List Test) → Excusing rs → (n p : ℕ) → verdict rs ≡ Bad n p → excused n ≡ true
@@ -87,8 +86,8 @@ module _ (m : Masks) (s : Step) (w : Mesh) {fs : List (List ℕ)} {xs : List Flo
         again fs xs lo lc lx g.keeps.shell g.whole v.0 v.1
 
     by-verdict : (v : Verdict) → verdict (left t h fs xs lo lc lx) ≡ v → Lasts m s w (outcome_of v fs xs)
-    by-verdict Good q = made_kept (left-good q)
-    by-verdict (Bad n i) q = excused-by (left t h fs xs lo lc lx) (left-excused t h fs xs lo lc lx) n i q
+    by-verdict (Ok _) q = made_kept (left-good q)
+    by-verdict (Err r) q = excused-by (left t h fs xs lo lc lx) (left-excused t h fs xs lo lc lx) r.number r.place q
 
     -- a call of an operator that asks 8 and 9 and has the numbers t and h
     pub call-lasts : Lasts m s w (outcome Closed w.offsets w.corners w.coords (number_tests t h) fs xs lo lc lx)

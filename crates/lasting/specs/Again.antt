@@ -1,15 +1,15 @@
 -- From a mesh that passes to its shell, and from the shell of a result back to a mesh that passes. Assumes nothing.
-use Rattle.std.specs.Prelude.{◌≡◌, refl, false, not, List, ℕ, zero, suc, ◌+◌, ◌*◌, ◌%◌, ◌≤◌, length, get_or, Float}
-use Rattle.std.proofs.Common.{sym, ◌∙◌, ap, subst, le_refl, le_of_eq, lt_irrefl, arith, le-ltb, eq-eqb}
+use Rattle.std.specs.Prelude.{◌≡◌, refl, false, not, List, ℕ, zero, suc, ◌+◌, ◌*◌, ◌%◌, ◌≤◌, length, get_or, eqb, Float}
+use Rattle.std.proofs.Common.{sym, ◌∙◌, ap, subst, le_refl, le_of_eq, lt_irrefl, arith, le-ltb, ne_eqb, eq-eqb}
 use Rattle.std.proofs.lemmas.Bool.{lt-leb}
 use Rattle.slices.specs.First.{first, none}
 use Rattle.point.specs.Finite.{not_finite}
-use Rattle.mesh.specs.Mesh.{faces}
+use Rattle.mesh.specs.Mesh.{faces, start}
 use Rattle.mesh.specs.Tests.{verdict, falls, wrong_offsets, wrong_shape, too_many, short, outside, repeats, size_tests, face_tests, tests, tests-good, by-groups, passed, pass, clear}
-use Rattle.mesh.specs.Shape.{Shaped, by_last}
+use Rattle.mesh.specs.Shape.{Shaped}
 use Rattle.mesh.specs.Edges.{reached}
 use Rattle.mesh.specs.Closed.{surface, closed-good}
-use Rattle.mesh.specs.declared.Verdict.TheVariants.{Good}
+use Rattle.mesh.specs.Verdict.{Good}
 use Rattle.rule.specs.Named.{positions}
 use Rattle.rule.specs.Flat.{flat, offsets_of, length-offsets}
 use Rattle.engine.specs.Result.{room_tests, finite_tests}
@@ -24,6 +24,10 @@ shell o k x e =
     }
 
 -- ---- 1 and 2
+pub by_last : (o : List ℕ) (n : ℕ) → (length o ≡ 0 → ⊥) → start o 0 ≡ 0 → faces o ≤ first (falls o) (faces o) → not (eqb (start o (faces o)) n) ≡ wrong_offsets o n
+unfolding wrong_offsets
+by_last o n a b c = simp (ne_eqb _ _ a, eq-eqb _ _ b, le-ltb _ _ c)
+
 offsets-right : (o : List ℕ) (n : ℕ) → Shaped o n → wrong_offsets o n ≡ false
 offsets-right o n s =
     sym (by_last o n (λ e. let w = s.some in lt_irrefl 0 (omega arith)) s.from (le_of_eq (none (falls o) (faces o) (λ f h. le-ltb _ _ (s.rises f h)))))

@@ -1,15 +1,14 @@
 -- Demand 3, closed stays closed, over what the operators answer: what it says. Definitions only.
-use Rattle.std.specs.Prelude.{◌≡◌, Bool, true, false, cond, ◌||◌, List, [], ◌∷◌, ℕ, ◌+◌, ◌*◌, ◌/◌, length, take, eqb, Float}
+use Rattle.std.specs.Prelude.{Ok, Err, ◌≡◌, Bool, true, false, cond, ◌||◌, List, [], ◌∷◌, ℕ, ◌+◌, ◌*◌, ◌/◌, length, take, eqb, Float}
 use Rattle.slices.specs.Lists.{each}
 use Rattle.mesh.specs.Mesh.{faces, run}
 use Rattle.mesh.specs.Tests.{verdict, tests}
-use Rattle.mesh.specs.declared.Verdict.TheVariants.{Good}
+use Rattle.mesh.specs.Verdict.{Good}
 use Rattle.picks.specs.Picks.{picked}
 use Rattle.rule.specs.Flat.{flat, offsets_of}
 use Rattle.engine.specs.Result.{Outcome, refused, result}
 use Rattle.engine.specs.declared.Counts.{Counts}
-use Rattle.engine.specs.declared.Answer.{Answer}
-use Rattle.engine.specs.declared.Answer.TheVariants.{Done, Refused}
+use Rattle.engine.specs.Answer.{Answer}
 use Rattle.steps.specs.Steps.{Mesh, Room, Masks, mesh, step_on}
 use Rattle.steps.specs.declared.Step.{Step}
 use Rattle.steps.specs.declared.Step.TheVariants.{Ambo, Chamfer, Dual, Gyro, Kis, Propellor, Quinto, Reflect, Reverse, Whirl, Triangulate}
@@ -130,5 +129,5 @@ pub record Stays (m : Masks) (s : Step) (w : Mesh) (c : Counts) (o k : List ℕ)
 
 -- it was done, or there is an excuse; outside a list the step is 0
 abbrev pub Answers : Masks → Step → Mesh → Answer → List ℕ → List ℕ → List Float → Type 0
-Answers m s w (Done c) o k x = Stays m s w c o k x
-Answers m s w (Refused n p i) o k x = (excused n ≡ true) × (i ≡ 0)
+Answers m s w (Ok c) o k x = Stays m s w c o k x
+Answers m s w (Err r) o k x = (excused r.number ≡ true) × (r.step ≡ 0)

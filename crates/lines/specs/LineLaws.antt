@@ -1,4 +1,5 @@
 -- Laws of a report's lines: the loop over the steps, and that its lines are those of the recipe's trail. Assumes nothing.
+use Rattle.std.specs.Prelude.{Ok, Err}
 use Rattle.std.specs.Prelude.{◌≡◌}
 use Rattle.std.proofs.Math.Path.{refl, sym, ap, ap₂, subst}
 use Rattle.std.proofs.Common.{◌∙◌}
@@ -13,8 +14,8 @@ use Rattle.text.specs.Text.{Put}
 use Rattle.text.specs.TextLaws.{put-none, put_then}
 use Rattle.engine.specs.Result.{Outcome, refused, result}
 use Rattle.engine.specs.declared.Counts.{Counts}
-use Rattle.engine.specs.declared.Answer.{Answer}
-use Rattle.engine.specs.declared.Answer.TheVariants.{Done, Refused}
+use Rattle.engine.specs.Answer.{Answer}
+use Rattle.engine.specs.Answer.{Done, Refused}
 use Rattle.steps.specs.Steps.{Mesh, Room, Masks, mesh, step_on}
 use Rattle.steps.specs.declared.Step.{Step}
 use Rattle.rule.specs.Flat.{flat, offsets_of}
@@ -84,12 +85,12 @@ module _ {r : Ran} {n k : ℕ} {t : List ℕ} {at : ℕ} {t' : List ℕ} (u : Up
 -- ---- a recipe of n steps with this answer and k finished steps: all are done, or one is refused, or there are none
 
 abbrev pub Ends : Answer → ℕ → ℕ → Type 0
-Ends (Done c) k n = k ≡ n
-Ends (Refused number place step) k n = (k ≤ n) × (0 < n → k < n)
+Ends (Ok c) k n = k ≡ n
+Ends (Err r) k n = (k ≤ n) × (0 < n → k < n)
 
 ends_more : (a : Answer) (k n : ℕ) → 0 < n → Ends a k n → Ends a (suc k) (suc n)
-ends_more (Done c) k n h e = ap suc e
-ends_more (Refused number place step) k n h e = let l = e.1 h in (omega arith, λ _. omega arith)
+ends_more (Ok c) k n h e = ap suc e
+ends_more (Err r) k n h e = let l = e.1 h in (omega arith, λ _. omega arith)
 
 ends-copy : (q : Outcome) → Ends (answer_to (record { rows = []; step = 0; end = q })) 0 0
 ends-copy (refused n p) = (omega arith, λ h. h)
@@ -136,10 +137,10 @@ module _ (rows more : List Row) (r : Ran) (n : ℕ) (has : r.rows ≡ rows ++ mo
 
   last-are : (a : Answer) → r.answer ≡ a → Ends a (length rows) n → (0 < n) → (m : ℕ) → length rows + m ≡ n → steps_from r (length rows) m ≡ end_line a
   unfolding steps_from
-  last-are (Done c) e d h zero q = refl
-  last-are (Done c) e d h (suc m) q = absurd (omega (arith, d))
-  last-are (Refused number place step) e d h zero q = let l = d.1 h in absurd (omega arith)
-  last-are (Refused number place step) e d h (suc m) q = ap (λ (x : Answer). goes_on r (length rows) x (steps_from r (length rows + 1) m)) (at-end ∙ e)
+  last-are (Ok c) e d h zero q = refl
+  last-are (Ok c) e d h (suc m) q = absurd (omega (arith, d))
+  last-are (Err r) e d h zero q = let l = d.1 h in absurd (omega arith)
+  last-are (Err r1) e d h (suc m) q = ap (λ (x : Answer). goes_on r (length rows) x (steps_from r (length rows + 1) m)) (at-end ∙ e)
 
   steps-are : (a : Answer) → r.answer ≡ a → Ends a (length rows) n → (0 < n) → (before after : List Row) (m : ℕ) → rows ≡ before ++ after → length before + m ≡ n →
       steps_from r (length before) m ≡ row_lines (length before + 1) after ++ end_line a
@@ -150,8 +151,8 @@ module _ (rows more : List Row) (r : Ran) (n : ℕ) (has : r.rows ≡ rows ++ mo
   steps-are a e d h before (x ∷ after) zero p q = absurd (too_few a d)
     where
       too_few : (a : Answer) → Ends a (length rows) n → ⊥
-      too_few (Done c) d = omega (arith, d, q, ap length p, length-append before (x ∷ after))
-      too_few (Refused number place step) d = omega (arith, d.0, q, ap length p, length-append before (x ∷ after))
+      too_few (Ok c) d = omega (arith, d, q, ap length p, length-append before (x ∷ after))
+      too_few (Err r) d = omega (arith, d.0, q, ap length p, length-append before (x ∷ after))
   steps-are a e d h before (x ∷ after) (suc m) p q =
       let here = at_done before x after p in
       let now : List Row = before ++ (x ∷ []) in
@@ -173,6 +174,6 @@ unfolding run_lines lines_of row_lines
 lines_are t more r zero a e d f w = ap end_line a ∙ ap (λ (l : List Row). row_lines 1 l ++ end_line (answer_to t)) (sym (none-are t.rows (few (answer_to t) w)))
   where
     few : (a : Answer) → Ends a (length t.rows) 0 → length t.rows ≤ 0
-    few (Done c) w = omega (arith, w)
-    few (Refused number place step) w = w.0
+    few (Ok c) w = omega (arith, w)
+    few (Err r) w = w.0
 lines_are t more r (suc n) a e d f w = rw (ne_eqb (suc n) 0 (λ (z : suc n ≡ 0). omega (arith, z))) (steps-are t.rows _ r (suc n) e d f (answer_to t) a w (omega arith) [] t.rows (suc n) refl (omega arith))

@@ -1,9 +1,9 @@
 -- The lines of a report in document 01's words: step, code, V, E, F, X, H; `refused`; `file`. Definitions only.
+use Rattle.std.specs.Prelude.{Ok, Err}
 use Rattle.std.specs.Prelude.{cond, List, [], ◌∷◌, ◌++◌, ℕ, ◌+◌}
 use Rattle.text.specs.Text.{decimal}
 use Rattle.engine.specs.declared.Counts.{Counts}
-use Rattle.engine.specs.declared.Answer.{Answer}
-use Rattle.engine.specs.declared.Answer.TheVariants.{Done, Refused}
+use Rattle.engine.specs.Answer.{Answer}
 use Rattle.chain.specs.Trail.{Trail, answer_to}
 use Rattle.chain.specs.declared.Row.{Row}
 use Rattle.totals.specs.declared.Whole.{Whole}
@@ -62,8 +62,8 @@ row_lines i (r ∷ rs) = step_line i r.code (counts_in r) ++ row_lines (i + 1) r
 
 -- the line of a refusal, and none where all is done
 abbrev pub end_line : Answer → List ℕ
-end_line (Done c) = []
-end_line (Refused number place step) = refused_line step number place
+end_line (Ok c) = []
+end_line (Err r) = refused_line r.step r.number r.place
 
 -- what a recipe with this trail prints: the finished steps, and the refusal that ends them
 unfoldable pub lines_of : Trail → List ℕ

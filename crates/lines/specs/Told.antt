@@ -1,8 +1,8 @@
 -- The lines as the code makes them, step by step from what a recipe hands back. Definitions only.
+use Rattle.std.specs.Prelude.{Ok, Err}
 use Rattle.std.specs.Prelude.{cond, List, [], ◌++◌, ℕ, zero, suc, ◌+◌, get_or, ltb, eqb}
 use Rattle.slices.specs.Lists.{each}
-use Rattle.engine.specs.declared.Answer.{Answer}
-use Rattle.engine.specs.declared.Answer.TheVariants.{Done, Refused}
+use Rattle.engine.specs.Answer.{Answer}
 use Rattle.chain.specs.declared.Ran.{Ran}
 use Rattle.totals.specs.Totals.{no_row, answer_at}
 use Rattle.lines.specs.Lines.{step_line, refused_line, end_line}
@@ -13,8 +13,8 @@ code_at r k = cond (ltb k 16) (get_or r.rows k no_row).code 0
 
 -- step k + 1 with this answer, and what comes after it where it is done
 abbrev pub goes_on : Ran → ℕ → Answer → List ℕ → List ℕ
-goes_on r k (Done c) rest = step_line (k + 1) (code_at r k) c ++ rest
-goes_on r k (Refused number place step) rest = refused_line step number place
+goes_on r k (Ok c) rest = step_line (k + 1) (code_at r k) c ++ rest
+goes_on r k (Err r1) rest = refused_line r1.step r1.number r1.place
 
 -- m steps from step k + 1 on
 unfoldable pub steps_from : Ran → ℕ → ℕ → List ℕ
@@ -23,8 +23,8 @@ steps_from r k (suc m) = goes_on r k (answer_at r k) (steps_from r (k + 1) m)
 
 -- the line of step k + 1 where it is done
 abbrev pub done_line : Ran → ℕ → Answer → List ℕ
-done_line r k (Done c) = step_line (k + 1) (code_at r k) c
-done_line r k (Refused number place step) = []
+done_line r k (Ok c) = step_line (k + 1) (code_at r k) c
+done_line r k (Err r1) = []
 
 -- the first k steps
 unfoldable pub steps_before : Ran → ℕ → List ℕ

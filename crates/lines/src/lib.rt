@@ -8,7 +8,7 @@ ghost use Rattle.lines.specs.Lines.{number_then, whole_then, step_line, refusal,
 ghost use Rattle.lines.specs.Told.{code_at, steps_from, run_lines};
 
 use chain::Ran;
-use engine::{Answer, Counts};
+use engine::{Counts, Stop};
 use totals::Whole;
 
 // A number and the byte after it.
@@ -60,23 +60,17 @@ fn put_refusal(text: &mut [u8], at: usize, number: u32, place: u32) -> usize
 }
 
 // Step, `refused`, number, place; nothing where an answer is no refusal.
-pub fn put_refused(text: &mut [u8], at: usize, a: Answer) -> usize
+pub fn put_refused(text: &mut [u8], at: usize, answer: Result<Counts, Stop>) -> usize
     requires { at ≤ 3000 }
-    ensures put { Put (end_line a) at text.old result text.new }
+    ensures put { Put (end_line answer) at text.old result text.new }
     ensures upper_bound { result ≤ at + 150 }
 {
-    match a {
-        Answer::Done(_) => at,
-        Answer::Refused {
-            number,
-            place,
-            step,
-        } => {
-            let word = put_then(text, at, step as u64, b' ');
-            let next = text::put_run(text, word, b"refused ");
-            put_refusal(text, next, number, place)
-        }
-    }
+    let Err(stop) = answer else {
+        return at;
+    };
+    let word = put_then(text, at, stop.step as u64, b' ');
+    let next = text::put_run(text, word, b"refused ");
+    put_refusal(text, next, stop.number, stop.place)
 }
 
 // `file`, number, place.
@@ -88,14 +82,15 @@ pub fn put_file(text: &mut [u8], number: u32, place: u32) -> usize
     put_refusal(text, next, number, place)
 }
 
+// The code of step k + 1, 0 where there is no such row.
+#[tactic(auto, unfolding(crate::specs::Told::code_at))]
 fn code_at(ran: Ran, k: usize) -> u32
     ensures { result ≡ code_at ran k }
 {
-    if k < 16 {
-        let row = ran.rows[k];
-        return row.code;
+    match ran.rows.get(k) {
+        Some(row) => row.code,
+        None => 0,
     }
-    0
 }
 
 // A line a step, up to the one that was refused.
@@ -105,14 +100,12 @@ fn put_steps(text: &mut [u8], ran: Ran, n: usize) -> usize
     ensures upper_bound { result ≤ 2550 }
 {
     let mut at = 0;
-    let mut k = 0;
-    while k < n {
-        let a = totals::answer_at(ran, k);
-        let Answer::Done(counts) = a else {
-            return put_refused(text, at, a);
+    for k in 0..n {
+        let answer = totals::answer_at(ran, k);
+        let Ok(counts) = answer else {
+            return put_refused(text, at, answer);
         };
         at = put_step(text, at, k + 1, code_at(ran, k), counts);
-        k += 1;
     }
     at
 }
@@ -124,8 +117,7 @@ pub fn put_lines(text: &mut [u8], ran: Ran, n: usize) -> usize
     ensures upper_bound { result ≤ 2550 }
 {
     if n == 0 {
-        let a = ran.answer;
-        return put_refused(text, 0, a);
+        return put_refused(text, 0, ran.answer);
     }
     put_steps(text, ran, n)
 }

@@ -2,106 +2,55 @@
 
 #![tactic(auto)]
 
-ghost use Rattle.steps.specs.Steps.{mesh, room};
+ghost use Rattle.std.specs.Prelude.{◌≡◌, Bool, is_some};
+ghost use Rattle.chain.specs.Lent.{shown};
 ghost use Rattle.named.specs.Named.{masked, list_masks};
-ghost use Rattle.lists.specs.Lists.{list_trail, Listed};
+ghost use Rattle.lists.specs.Lists.{list_trail, numbers_in, Lists};
 
-use engine::Answer;
+use engine::{Counts, Stop};
+use mesh::{Mesh, MeshMut};
 use named::NamedList;
 use picks::Mask;
 
-// The run of a list with these masks.
-fn play(
-    l: NamedList,
-    given: bool,
-    arities: &[u32],
-    regular: bool,
-    io: &[u32],
-    ic: &[u32],
-    ip: &[f32],
-    ao: &mut [u32],
-    ac: &mut [u32],
-    ap: &mut [f32],
-    bo: &mut [u32],
-    bc: &mut [u32],
-    bp: &mut [f32],
-    xo: &mut [u32],
-    xc: &mut [u32],
-    xp: &mut [f32],
-) -> Answer
-    ensures { Listed (list_trail l (masked given arities.now regular) (mesh io.now ic.now ip.now) (room ao.old ac.old ap.old) (room bo.old bc.old bp.old) (room xo.old xc.old xp.old)) (mesh ao.old ac.old ap.old) (mesh bo.old bc.old bp.old) (mesh xo.old xc.old xp.old) result (mesh ao.new ac.new ap.new) (mesh bo.new bc.new bp.new) (mesh xo.new xc.new xp.new) }
+// The arities that a list takes: those that are given, or its own.
+fn arities_of<'a>(l: NamedList, arities: Option<&'a [u32]>) -> Option<&'a [u32]>
+    ensures { (regular : Bool) → list_masks l (is_some arities.entry) (numbers_in arities.entry) regular ≡ masked (is_some result) (numbers_in result) regular }
 {
+    if named::defaults(l, arities.is_some()) {
+        Some(&[3])
+    } else {
+        arities
+    }
+}
+
+// A list on a mesh, through the work meshes a and b. Both work meshes read zero on return.
+pub fn list(
+    l: NamedList,
+    arities: Option<&[u32]>,
+    regular: bool,
+    input: Mesh<'_>,
+    a: &mut MeshMut<'_>,
+    b: &mut MeshMut<'_>,
+    out: &mut MeshMut<'_>,
+) -> Result<Counts, Stop>
+    ensures { Lists (list_trail l (list_masks l (is_some arities.entry) (numbers_in arities.entry) regular) (shown input.entry)) a.old b.old out.old result a.new b.new out.new }
+{
+    let arities = arities_of(l, arities);
     let mask = Mask {
-        arities: given,
+        arities: arities.is_some(),
         numbers: false,
         regular,
     };
-    let all = named::steps_of(l);
-    let n = named::count_of(l);
+    let steps = named::steps_of(l);
     let ran = runner::run(
-        all,
-        n,
+        steps.as_slice(),
         mask,
-        arities,
-        &arities[..0],
-        io,
-        ic,
-        ip,
-        ao,
-        ac,
-        ap,
-        bo,
-        bc,
-        bp,
-        xo,
-        xc,
-        xp,
+        arities.unwrap_or(&[]),
+        &[],
+        input,
+        a,
+        b,
+        out,
     );
     ran.answer
-}
-
-// A list on the mesh i, through the work meshes a and b, into x; `given` says that arities are given. Both work meshes read zero on return.
-pub fn list(
-    l: NamedList,
-    given: bool,
-    arities: &[u32],
-    regular: bool,
-    io: &[u32],
-    ic: &[u32],
-    ip: &[f32],
-    ao: &mut [u32],
-    ac: &mut [u32],
-    ap: &mut [f32],
-    bo: &mut [u32],
-    bc: &mut [u32],
-    bp: &mut [f32],
-    xo: &mut [u32],
-    xc: &mut [u32],
-    xp: &mut [f32],
-) -> Answer
-    ensures { Listed (list_trail l (list_masks l given arities.now regular) (mesh io.now ic.now ip.now) (room ao.old ac.old ap.old) (room bo.old bc.old bp.old) (room xo.old xc.old xp.old)) (mesh ao.old ac.old ap.old) (mesh bo.old bc.old bp.old) (mesh xo.old xc.old xp.old) result (mesh ao.new ac.new ap.new) (mesh bo.new bc.new bp.new) (mesh xo.new xc.new xp.new) }
-{
-    if named::defaults(l, given) {
-        return play(
-            l,
-            true,
-            &[3],
-            regular,
-            io,
-            ic,
-            ip,
-            ao,
-            ac,
-            ap,
-            bo,
-            bc,
-            bp,
-            xo,
-            xc,
-            xp,
-        );
-    }
-    play(
-        l, given, arities, regular, io, ic, ip, ao, ac, ap, bo, bc, bp, xo, xc, xp,
-    )
 }

@@ -1,6 +1,6 @@
 -- What tests 8 and 9 mean: no two corners have one directed edge, and each has one that is its reverse. Both directions, and the laws of mates.
 -- Assumes nothing.
-use Rattle.std.specs.Prelude.{ℕ, ◌<◌, ◌≡◌, refl, Bool, true, false, ◌&&◌, List, eqb, Float}
+use Rattle.std.specs.Prelude.{ℕ, ◌<◌, ◌≡◌, true, false, List, eqb, Float}
 use Rattle.std.proofs.Math.Path.{sym, ap}
 use Rattle.std.proofs.Common.{◌∙◌, arith, le_refl, le_of_suc-le-suc, lt_of_not-le}
 use Rattle.std.proofs.Math.Bool.{not, true≢false}
@@ -12,7 +12,7 @@ use Rattle.mesh.specs.Mesh.{faces, next, prev, window, window_is, mate, turn, pa
 use Rattle.mesh.specs.Tests.{alone, met, repeats, verdict, tests, face_tests, edge_tests, passed, pass, clear, tests-good}
 use Rattle.mesh.specs.Shape.{Shaped, Full, size-good, passed-short}
 use Rattle.mesh.specs.Corners.{next-prev, prev-lt}
-use Rattle.mesh.specs.declared.Verdict.TheVariants.{Good}
+use Rattle.mesh.specs.Verdict.{Good}
 
 -- ---- a window by its two numbers
 abbrev pub from : List ℕ → List ℕ → ℕ → ℕ

@@ -10,7 +10,7 @@ use Rattle.slices.specs.First.{first, first-is, nowhere}
 use Rattle.mesh.specs.Mesh.{faces, start, end, face_of, next, next_in, prev, prev_in, mate, turn, around}
 use Rattle.mesh.specs.Tests.{alone, verdict, edge_tests, passed}
 use Rattle.mesh.specs.Shape.{Shaped, In, face_of-at, next-at, in-lt}
-use Rattle.mesh.specs.declared.Verdict.TheVariants.{Good}
+use Rattle.mesh.specs.Verdict.{Good}
 
 module _ (o : List ℕ) (n : ℕ) (s : Shaped o n) where
   ends-past : (c : ℕ) → ℕ → Bool

@@ -1,14 +1,13 @@
 -- What the tests up to 9 leave known of a mesh in one record; ascending windows, and the rank of an edge among them.
 -- Assumes nothing.
 use Rattle.std.specs.Prelude.{ℕ, ◌+◌, ◌*◌, ◌/◌, ◌≤◌, ◌<◌, ◌≡◌, Bool, true, false, cond, List, length, get_or, ltb, Float}
-use Rattle.std.proofs.Common.{◌∙◌, arith, lt-ltb, le-ltb, leb-false}
-use Rattle.std.proofs.Math.Path.{ap}
+use Rattle.std.proofs.Common.{arith, leb-false}
 use Rattle.slices.specs.First.{count, count-le, nowhere}
-use Rattle.mesh.specs.Mesh.{faces, face_of, next, next_in, prev, prev_in, mate, window, ordered_of}
+use Rattle.mesh.specs.Mesh.{faces, face_of, next, prev, mate, window, ordered_of}
 use Rattle.mesh.specs.Tests.{limit, outside, verdict, passed, size_tests, face_tests, edge_tests, tests, tests-good}
-use Rattle.mesh.specs.Shape.{Shaped, In, Full, Limited, next-at, size-good, face-good}
+use Rattle.mesh.specs.Shape.{Shaped, In, Full, Limited, size-good, face-good}
 use Rattle.mesh.specs.Corners.{Paired, in-face, next-lt, prev-lt, edges-good}
-use Rattle.mesh.specs.declared.Verdict.TheVariants.{Good}
+use Rattle.mesh.specs.Verdict.{Good}
 
 -- a mesh that passes 1, 2 and 5, as far as its faces' corners need it
 pub record Faced (o k : List ℕ) : Type 0 where
@@ -67,22 +66,6 @@ rank o k c = count (up o k) (cond (up o k c) c (mate o k c))
 abbrev pub edges : List ℕ → List ℕ → ℕ
 edges o k = count (up o k) (length k)
 
-pub up-yes : (o k : List ℕ) (n f c d a b : ℕ) → Shaped o n → In o f c → d ≡ next_in o f c → a ≡ get_or k c 0 → b ≡ get_or k d 0 → a < b → true ≡ up o k c
-unfolding up
-up-yes o k n f c d a b s i e p q h = rw (next-at o n s f c i, ← e, ← p, ← q, lt-ltb a b h)
-
-pub up-no : (o k : List ℕ) (n f c d a b : ℕ) → Shaped o n → In o f c → d ≡ next_in o f c → a ≡ get_or k c 0 → b ≡ get_or k d 0 → b ≤ a → false ≡ up o k c
-unfolding up
-up-no o k n f c d a b s i e p q h = rw (next-at o n s f c i, ← e, ← p, ← q, le-ltb a b h)
-
-pub rank_up : (o k : List ℕ) (c r : ℕ) → up o k c ≡ true → r ≡ count (up o k) c → r ≡ rank o k c
-unfolding rank
-rank_up o k c r e h = rw e h
-
-pub rank_down : (o k : List ℕ) (c r m : ℕ) → up o k c ≡ false → m ≡ mate o k c → r ≡ count (up o k) m → r ≡ rank o k c
-unfolding rank
-rank_down o k c r m e p h = rw (e, ← p) h
-
 module _ (o k : List ℕ) (s : Faced o k) where
   pub next-below : (c : ℕ) → c < length k → next o c < length k
   next-below c h = next-lt o (length k) s.shaped c h
@@ -95,14 +78,6 @@ module _ (o k : List ℕ) (s : Faced o k) where
 
   pub in-own : (c f : ℕ) → c < length k → f ≡ face_of o c → In o f c
   in-own c f h e = rw e (in-face o (length k) s.shaped c h)
-
-  pub next-own : (c f r : ℕ) → c < length k → f ≡ face_of o c → r ≡ next_in o f c → r ≡ next o c
-  unfolding next
-  next-own c f r h e q = q ∙ ap (λ (g : ℕ). next_in o g c) e
-
-  pub prev-own : (c f r : ℕ) → c < length k → f ≡ face_of o c → r ≡ prev_in o f c → r ≡ prev o c
-  unfolding prev
-  prev-own c f r h e q = q ∙ ap (λ (g : ℕ). prev_in o g c) e
 
   pub edges_few : edges o k ≤ 60000
   edges_few = let w = count-le (up o k) (length k) in let z = s.few in omega arith

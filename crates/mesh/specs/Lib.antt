@@ -1,13 +1,15 @@
 -- The specs of the mesh: definitions first, then the laws.
-pub mod Mesh
-pub mod Tests
-pub mod Shape
-pub mod Corners
-pub mod Edges
-pub mod Count
 pub mod Closed
-pub mod Unlike
-pub mod Ranks
+pub mod Corners
+pub mod Count
+pub mod Edges
+pub mod Mesh
 pub mod Pieces
+pub mod Ranks
 pub mod Scan
+pub mod Shape
+pub mod Tests
 pub mod Twice
+pub mod Unlike
+pub mod Verdict
+pub mod Lent

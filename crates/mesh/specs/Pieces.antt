@@ -3,7 +3,7 @@ use Rattle.std.specs.Prelude.{ℕ, ◌≡◌, refl, List, [], ◌∷◌}
 use Rattle.slices.specs.First.{first}
 use Rattle.mesh.specs.Mesh.{face_of, next, window, mate}
 use Rattle.mesh.specs.Tests.{verdict, edge_tests}
-use Rattle.mesh.specs.declared.Verdict.TheVariants.{Good}
+use Rattle.mesh.specs.Verdict.{Good}
 
 -- T: faces [0,1,2], [0,3,1], [0,2,3], [1,3,2]
 abbrev pub tOffsets : List ℕ

@@ -1,6 +1,6 @@
 -- A scan that passes over the corners of other vertices: what it leaves known, and the face of a corner found from an earlier face on.
 -- Assumes nothing.
-use Rattle.std.specs.Prelude.{ℕ, zero, suc, ◌+◌, ◌≤◌, ◌<◌, ◌≡◌, refl, Bool, true, false, not, ◌&&◌, List, length, get_or, ltb, eqb}
+use Rattle.std.specs.Prelude.{ℕ, ◌+◌, ◌≤◌, ◌<◌, ◌≡◌, refl, Bool, true, false, not, ◌&&◌, List, get_or, ltb, eqb}
 use Rattle.std.proofs.Common.{sym, ◌∙◌, ap, true≢false, ⊎_elim, arith, le_trans, ltb-false, le-ltb}
 use Rattle.slices.specs.First.{first-is, is_at, Searched, lt-or-le, both}
 use Rattle.mesh.specs.Mesh.{faces, start, end, face_of, window, window_is}
@@ -10,9 +10,6 @@ pub record Skipped (p : ℕ → Bool) (n i r : ℕ) : Type 0 where
   pub ahead : i ≤ r
   pub within : r ≤ n
   pub between : (k : ℕ) → i ≤ k → k < r → p k ≡ false
-
-pub skipped-none : (p : ℕ → Bool) (n i : ℕ) → i ≤ n → Skipped p n i i
-skipped-none p n i h = record { ahead = omega arith; within = h; between = λ k a b. absurd (let z : k < k = omega (arith, a, b) in omega (arith, z)) }
 
 pub skipped-more : {p : ℕ → Bool} {n i r : ℕ} → Skipped p n i r → r < n → p r ≡ false → Skipped p n i (r + 1)
 skipped-more {p} {n} {i} {r} s h e =

@@ -1,13 +1,13 @@
 -- What the tests 1, 2 and 5 leave known of a mesh, and the laws of faces and corners that follow.
 -- Assumes nothing.
-use Rattle.std.specs.Prelude.{ℕ, zero, suc, ◌+◌, ◌-◌, ◌/◌, ◌≤◌, ◌<◌, ◌≡◌, refl, Bool, true, false, cond, not, ◌||◌, List, length, get_or, take, drop, eqb, Float}
-use Rattle.std.proofs.Common.{zero-le, ◌∙◌, ap, ap₂, true≢false, ⊎_elim, arith, eq-or-lt_of_le, le_refl, le_trans, add-zero, add-suc, pos_of_ne-zero, lt_irrefl, le_of_eq, add-one, length-take, length-drop}
+use Rattle.std.specs.Prelude.{ℕ, zero, suc, ◌+◌, ◌-◌, ◌/◌, ◌≤◌, ◌<◌, ◌≡◌, refl, Bool, true, false, cond, not, ◌||◌, List, length, eqb, Float}
+use Rattle.std.proofs.Common.{zero-le, true≢false, ⊎_elim, arith, eq-or-lt_of_le, le_refl, le_trans, add-zero, add-suc, pos_of_ne-zero, lt_irrefl, le_of_eq, add-one, length-take, length-drop}
 use Rattle.std.proofs.Math.Dec.{ltb}
-use borrow.Author.Tests.{lt-ltb, le-ltb, ltb-true, ltb-false, eqb-true, eqb-false, not-false, eq-eqb, ne_eqb, le-leb, lt-leb}
+use borrow.Author.Tests.{lt-ltb, le-ltb, ltb-true, ltb-false, eqb-true, eqb-false, not-false}
 use Rattle.slices.specs.First.{first, any, found, nowhere}
-use Rattle.mesh.specs.Mesh.{faces, start, end, arity, run, face_of, face_after, next, next_in, pair_of, window, window_is}
-use Rattle.mesh.specs.Tests.{falls, wrong_offsets, wrong_shape, too_many, limit, short, outside, verdict, passed, size_tests, face_tests}
-use Rattle.mesh.specs.declared.Verdict.TheVariants.{Good}
+use Rattle.mesh.specs.Mesh.{faces, start, end, arity, run, face_of, face_after, next, next_in}
+use Rattle.mesh.specs.Tests.{falls, wrong_offsets, wrong_shape, too_many, limit, short, verdict, passed, size_tests, face_tests}
+use Rattle.mesh.specs.Verdict.{Good}
 
 -- offsets o over n corners
 pub record Shaped (o : List ℕ) (n : ℕ) : Type 0 where
@@ -108,31 +108,9 @@ module _ (o : List ℕ) (n : ℕ) (s : Shaped o n) where
   pub next-lt : (f c : ℕ) → In o f c → next_in o f c < n
   next-lt f c i = let w = end-le f i.face in let z : next_in o f c < end o f = next-to f c i (ltb (c + 1) (end o f)) refl in omega arith
 
-  pub window-at : (k : List ℕ) (f c : ℕ) → In o f c → pair_of (get_or k c 0) (get_or k (next_in o f c) 0) ≡ window o k c
-  unfolding window
-  window-at k f c i = rw (next-at f c i)
-
--- a window that starts elsewhere
-pub starts-elsewhere : (o k e : List ℕ) (c a : ℕ) → a ≡ get_or k c 0 → (a ≡ get_or e 0 0 → ⊥) → false ≡ window_is o k e c
-unfolding window
-starts-elsewhere o k e c a q h = rw (← q, ne_eqb _ _ h)
-
--- ---- a test's answer from what the code compares
+-- ---- the length of a run
 pub length_run : (o k : List ℕ) → Shaped o (length k) → (f : ℕ) → f < faces o → length (run o k f) ≡ arity o f
 length_run o k s f h = let w = end-le o (length k) s f h in let v = s.rises f h in simp (length-take, length-drop) (omega arith)
-
-pub short-run : (o k : List ℕ) → Shaped o (length k) → (f a b r : ℕ) → f < faces o → a ≡ start o f → b ≡ end o f → r ≡ length (take (b - a) (drop a k)) → ltb r 3 ≡ short o f
-short-run o k s f a b r h p q e = ap (λ (n : ℕ). ltb n 3) (e ∙ ap₂ (λ (i j : ℕ). length (take (j - i) (drop i k))) p q ∙ length_run o k s f h)
-
-pub outside-yes : (k : List ℕ) (v c n : ℕ) → n ≡ get_or k c 0 → v ≤ n → outside k v c ≡ true
-outside-yes k v c n e h = rw (← e) (le-leb v n h)
-
-pub outside-no : (k : List ℕ) (v c n : ℕ) → n ≡ get_or k c 0 → n < v → outside k v c ≡ false
-outside-no k v c n e h = rw (← e) (lt-leb v n h)
-
-pub by_last : (o : List ℕ) (n : ℕ) → (length o ≡ 0 → ⊥) → start o 0 ≡ 0 → faces o ≤ first (falls o) (faces o) → not (eqb (start o (faces o)) n) ≡ wrong_offsets o n
-unfolding wrong_offsets
-by_last o n a b c = simp (ne_eqb _ _ a, eq-eqb _ _ b, le-ltb _ _ c)
 
 -- ---- what a test that is passed leaves known
 pub passed-shape : (o : List ℕ) (n m : ℕ) → 2 ≤ first (wrong_shape o n m) 2 → Shaped o n
@@ -161,3 +139,6 @@ size-good o n m e =
 pub face-good : (o k : List ℕ) (x : List Float) → verdict (face_tests o k x) ≡ Good → Full o
 unfolding face_tests
 face-good o k x e = passed-short o (passed _ _ (passed _ _ e).1).0
+
+-- the corner after one of a known face
+pub ruleset after_in = (next-at)

@@ -1,12 +1,12 @@
 -- The refusal table: a test has its number, a test of a place, and how many places there are.
 -- Assumes nothing.
-use Rattle.std.specs.Prelude.{ℕ, zero, suc, ◌+◌, ◌-◌, ◌/◌, ◌%◌, ◌≤◌, ◌<◌, ◌≡◌, refl, Bool, true, false, cond, not, ◌||◌, List, [], ◌∷◌, ◌++◌, length, get_or, ltb, leb, eqb, Float}
-use Rattle.std.proofs.Common.{sym, ◌∙◌, ap, arith, lt-ltb, le-ltb, ltb-false}
+use Rattle.std.specs.Prelude.{Option, Some, None, IfSome, Ok, Err, ◌^◌, ℕ, zero, suc, ◌+◌, ◌-◌, ◌/◌, ◌%◌, ◌≤◌, ◌<◌, ◌≡◌, refl, Bool, true, false, cond, not, ◌||◌, List, [], ◌∷◌, ◌++◌, length, get_or, ltb, leb, eqb, Float}
+use Rattle.std.proofs.Common.{sym, ◌∙◌, ap, arith, le_of_eq, lt-ltb, le-ltb, ltb-false}
 use Rattle.point.specs.Finite.{not_finite}
-use Rattle.slices.specs.First.{first, any, count, is_at}
+use Rattle.slices.specs.First.{first, any, count, is_at, lowest as lowest_below, found_at, found_none}
 use Rattle.mesh.specs.Mesh.{faces, start, end, arity, run, window, window_is, mate, around}
-use Rattle.mesh.specs.declared.Verdict.{Verdict}
-use Rattle.mesh.specs.declared.Verdict.TheVariants.{Good, Bad}
+use Rattle.mesh.specs.declared.Refusal.{Refusal}
+use Rattle.mesh.specs.Verdict.{Verdict, Good, Bad, refused_at}
 
 pub record Test : Type 0 where
   pub number : ℕ
@@ -20,12 +20,12 @@ verdict (r ∷ rs) = cond (any r.holds r.places) (Bad r.number (first r.holds r.
 
 -- the number and the place handed back: 0 and 0 where nothing is refused
 abbrev pub number_of : Verdict → ℕ
-number_of Good = 0
-number_of (Bad n p) = n
+number_of (Ok _) = 0
+number_of (Err r) = r.number
 
 abbrev pub place_of : Verdict → ℕ
-place_of Good = 0
-place_of (Bad n p) = p
+place_of (Ok _) = 0
+place_of (Err r) = r.place
 
 -- ---- the tests
 
@@ -133,10 +133,36 @@ pub clear : Good ≡ verdict []
 unfolding verdict
 clear = refl
 
+-- the same by what a search found: a row that refuses, one that does not, the last row
+pub passes : (r : Test) (rs : List Test) (o : Option ℕ) {v : Verdict} → o ≡ lowest_below r.holds r.places → Good ≡ refused_at r.number o → v ≡ verdict rs → v ≡ verdict (r ∷ rs)
+passes r rs None e g v = let f = found_none e refl in pass r rs r.places f.first (le_of_eq refl) v
+passes r rs (Some a) e g v = cc
+
+pub refuses : (r : Test) (rs : List Test) (o : Option ℕ) {e : Refusal} → o ≡ lowest_below r.holds r.places → Err e ≡ refused_at r.number o → Err e ≡ verdict (r ∷ rs)
+refuses r rs None e g = cc
+refuses r rs (Some a) e g = let f = found_at e refl in g ∙ stop r rs a f.first f.within
+
+pub ends : (r : Test) (o : Option ℕ) → o ≡ lowest_below r.holds r.places → refused_at r.number o ≡ verdict (r ∷ [])
+ends r None e = passes r [] None e refl clear
+ends r (Some a) e = refuses r [] (Some a) e refl
+
+-- the place of a row fits 32 bits
+pub row_fits : (p : ℕ → Bool) (m : ℕ) → m ≤ 2 ^ 32 → IfSome (lowest_below p m) (λ place. place < 2 ^ 32)
+row_fits p m h = go (lowest_below p m) refl
+  where
+    go : (o : Option ℕ) → o ≡ lowest_below p m → IfSome o (λ place. place < 2 ^ 32)
+    go None e = tt
+    go (Some a) e = let w = (found_at e refl).within in let z : a < 2 ^ 32 = omega arith in z
+
+-- a row that does not refuse: its test holds nowhere
+pub cleared : (p : ℕ → Bool) (m n : ℕ) (o : Option ℕ) → o ≡ lowest_below p m → Good ≡ refused_at n o → m ≤ first p m
+cleared p m n None e g = le_of_eq (found_none e refl).first
+cleared p m n (Some a) e g = cc
+
 -- ---- groups of tests one after the other
 abbrev pub and_then : Verdict → Verdict → Verdict
-and_then Good w = w
-and_then (Bad n p) w = Bad n p
+and_then (Ok _) w = w
+and_then (Err r) w = Bad r.number r.place
 
 choose : (b : Bool) (n p : ℕ) (u v w : Verdict) → u ≡ and_then v w → cond b (Bad n p) u ≡ and_then (cond b (Bad n p) v) w
 choose true n p u v w e = refl
@@ -158,6 +184,17 @@ passed r rs e =
     let w = after (any r.holds r.places) r.number (first r.holds r.places) (verdict rs) e in
     (ltb-false _ _ w.0, w.1)
 
+-- a row and the rest, by what the search for the row's place finds
+pub verdict_more : (r : Test) (rs : List Test) → verdict (r ∷ rs) ≡ and_then (refused_at r.number (lowest_below r.holds r.places)) (verdict rs)
+unfolding verdict lowest_below
+verdict_more r rs = go (any r.holds r.places)
+  where
+    go : (b : Bool) → cond b (Bad r.number (first r.holds r.places)) (verdict rs) ≡ and_then (refused_at r.number (cond b (Some (first r.holds r.places)) None)) (verdict rs)
+    go true = refl
+    go false = refl
+
+pub ruleset rows = (verdict_more, clear, row_fits)
+
 -- the table by its groups
 pub by-groups : (o k : List ℕ) (x : List Float) → verdict (tests o k x) ≡ and_then (verdict (size_tests o (length k) (length x))) (and_then (verdict (face_tests o k x)) (verdict (edge_tests o k)))
 unfolding tests
@@ -178,9 +215,11 @@ pub full-by-groups : (o k : List ℕ) (x : List Float) → verdict (full_tests o
 unfolding full_tests
 full-by-groups o k x = verdict-append (tests o k x) (round_tests o k (length x / 3))
 
+pub ruleset groups = (by-groups, full-by-groups)
+
 pub both-good : (v w : Verdict) → and_then v w ≡ Good → (v ≡ Good) × (w ≡ Good)
-both-good Good w e = (refl, e)
-both-good (Bad n p) w e = absurd (let z : ◌≡◌ {A = ℕ} 0 1 = cc in omega arith)
+both-good (Ok _) w e = (refl, e)
+both-good (Err r) w e = absurd (let z : ◌≡◌ {A = ℕ} 0 1 = cc in omega arith)
 
 pub tests-good : (o k : List ℕ) (x : List Float) → verdict (tests o k x) ≡ Good → (verdict (size_tests o (length k) (length x)) ≡ Good) × ((verdict (face_tests o k x) ≡ Good) × (verdict (edge_tests o k) ≡ Good))
 tests-good o k x e =

@@ -1,11 +1,12 @@
 -- A vertex that stands twice in a long run of corners, looked for by windows of vertex numbers: definitions and their laws.
 -- Assumes nothing.
-use Rattle.std.specs.Prelude.{ℕ, ◌+◌, ◌-◌, ◌≤◌, ◌<◌, ◌≡◌, refl, Bool, true, ◌&&◌, List, length, get_or, set, take, drop, replicate, ltb, leb, eqb}
-use Rattle.std.proofs.Common.{zero-le, sym, ◌∙◌, ap, true≢false, ⊎_elim, arith, le_of_eq, not-suc-le-zero, length-set, length-take, length-drop, get_or-set_same, get_or-set_other, get_or-take, get_or-drop, ltb-true, ltb-false, lt-ltb, le-ltb, le-leb, leb-true, leb-false, eqb-true, eq-eqb, ne_eqb, below_more}
+use Rattle.std.specs.Prelude.{ℕ, ◌+◌, ◌-◌, ◌≤◌, ◌<◌, ◌≡◌, refl, Bool, true, cond, ◌&&◌, ◌||◌, zero, suc, List, [], ◌∷◌, length, get_or, set, take, drop, replicate, ltb, leb, eqb}
+use Rattle.std.specs.List.{list_any}
+use Rattle.std.proofs.Common.{length-take-le, sym, ◌∙◌, ap, true≢false, ⊎_elim, arith, le_of_eq, not-suc-le-zero, length-set, length-take, length-drop, get_or-set_same, get_or-set_other, get_or-take, get_or-drop, ltb-true, ltb-false, lt-ltb, le-ltb, le-leb, leb-true, leb-false, eqb-true, eq-eqb, ne_eqb, below_more}
 use Rattle.std.proofs.Math.Bool.{false}
 use Rattle.std.proofs.lemmas.List.{length-replicate, get_or-replicate}
-use Rattle.std.proofs.lemmas.Bool.{lt-leb, eqb-false}
-use Rattle.slices.specs.First.{first, any, is_at, first-is, none, nowhere, at-or-before, lt-or-le, Searched, begun, onward, both}
+use Rattle.std.proofs.lemmas.Bool.{eqb-false}
+use Rattle.slices.specs.First.{first, first_cong, any, is_at, first-is, none, nowhere, at-or-before, lt-or-le, Searched, onward, both}
 use Rattle.mesh.specs.Tests.{seen, outside}
 
 -- each number is below v
@@ -50,14 +51,34 @@ any-no p i q = go (any p i) refl
     go false e =
         le-ltb (first p (i + 1)) (i + 1) (le_of_eq (none p (i + 1) (below_more (λ k. p k ≡ false) i (nowhere p i (ltb-false _ _ e)) q)))
 
+-- ---- a search along a list
+any_item : (test : ℕ → Bool) (l : List ℕ) → list_any test l ≡ any (λ i. test (get_or l i 0)) (length l)
+unfolding first
+any_item test [] = refl
+any_item test (x ∷ xs) = go (test x) (list_any test xs) (first (λ i. test (get_or xs i 0)) (length xs)) (length xs) (any_item test xs)
+  where
+    under : (b : Bool) (m n : ℕ) → b ≡ ltb m n → b ≡ ltb (suc m) (suc n)
+    under true m n e = sym (lt-ltb (suc m) (suc n) (let h = ltb-true m n (sym e) in omega arith))
+    under false m n e = sym (le-ltb (suc m) (suc n) (let h = ltb-false m n (sym e) in omega arith))
+
+    go : (b r : Bool) (m n : ℕ) → r ≡ ltb m n → b || r ≡ ltb (cond b zero (suc m)) (suc n)
+    go true r m n e = sym (lt-ltb zero (suc n) (omega arith))
+    go false r m n e = under r m n e
+
+any_cong : (p q : ℕ → Bool) (n : ℕ) → ((k : ℕ) → k < n → p k ≡ q k) → any p n ≡ any q n
+any_cong p q n e = ap (λ (m : ℕ). ltb m n) (first_cong p q n e)
+
+-- a number stands among those before it
+pub seen_front : (l : List ℕ) (i : ℕ) → i ≤ length l → list_any (λ x. eqb x (get_or l i 0)) (take i l) ≡ seen l i
+seen_front l i h =
+    any_item (λ x. eqb x (get_or l i 0)) (take i l)
+    ∙ ap (any (λ j. eqb (get_or (take i l) j 0) (get_or l i 0))) (length-take-le i l h)
+    ∙ any_cong (λ j. eqb (get_or (take i l) j 0) (get_or l i 0)) (is_at l (get_or l i 0)) i (λ j a. ap (λ (x : ℕ). eqb x (get_or l i 0)) (get_or-take i l j 0 a))
+
 -- ---- the window of a number
 pub above-window : (low w x : ℕ) → low ≤ x → ltb (x - low) w ≡ in_window low w x
 unfolding in_window
 above-window low w x h = rw (le-leb low x h)
-
-pub below-window : (low w x : ℕ) → x < low → false ≡ in_window low w x
-unfolding in_window
-below-window low w x h = rw (lt-leb low x h)
 
 window-holds : (low w d : ℕ) → d < w → in_window low w (low + d) ≡ true
 window-holds low w d h =
@@ -102,9 +123,6 @@ pub record Walked (low w : ℕ) (l : List ℕ) (i : ℕ) (marks : List Bool) : T
   pub long : length marks ≡ w
   pub passed : Searched (again low w l) (length l) i
   pub marked : Marked low l i marks
-
-pub walk-begun : (low : ℕ) (l : List ℕ) (marks : List Bool) → Unmarked marks → Walked low (length marks) l 0 marks
-walk-begun low l marks u = record { long = refl; passed = begun _ _; marked = λ d h. u d h ∙ sym (le-ltb (first (is_at l (low + d)) 0) 0 zero-le) }
 
 module _ {low w : ℕ} {l : List ℕ} {i : ℕ} {marks : List Bool} (k : Walked low w l i marks) where
   pub walk-ended : length l ≤ i → false ≡ any (again low w l) (length l)

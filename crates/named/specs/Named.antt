@@ -1,7 +1,6 @@
 -- The ten lists that document 01 names: their steps, and the masks of kis in them. Definitions only.
-use Rattle.std.specs.Prelude.{Bool, true, false, cond, not, List, [], ◌∷◌, ◌++◌, ℕ, replicate}
-use Rattle.slices.specs.Lists.{over}
-use Rattle.operators.specs.declared.Number.{Number}
+use Rattle.std.specs.Prelude.{Bool, true, false, cond, not, List, [], ◌∷◌, ◌++◌, ℕ}
+use Rattle.operators.specs.Number.{Number}
 use Rattle.steps.specs.Steps.{Masks, masks}
 use Rattle.steps.specs.declared.Step.{Step}
 use Rattle.steps.specs.declared.Step.TheVariants.{Ambo, Dual, Gyro, Kis}
@@ -24,10 +23,6 @@ list_steps (Ortho t) = join_steps t ++ join_steps t
 list_steps (Snub t h) = Dual ∷ Gyro t h ∷ Dual ∷ []
 list_steps (Truncate h) = Dual ∷ Kis h ∷ Dual ∷ []
 list_steps (Zip h) = Kis h ∷ Dual ∷ []
-
--- the steps of a list by sixteen; past its own nothing reads them
-abbrev pub sixteen : NamedList → List Step
-sixteen l = over (list_steps l) (replicate 16 Dual)
 
 -- the arities that meta takes where none are given
 abbrev pub meta_arities : List ℕ

@@ -1,88 +1,89 @@
-// The ten lists of operators that document 01 names: their steps, how many these are, and whether a list takes arities of its own.
+// The ten lists of operators that document 01 names: their steps, and whether a list takes arities of its own.
 
 #![tactic(auto)]
 
-ghost use Rattle.std.specs.Prelude.{◌≡◌, [], ◌∷◌, length};
-ghost use Rattle.steps.specs.declared.Step.TheVariants.{Dual};
-ghost use Rattle.named.specs.Named.{list_steps, sixteen, defaulted};
+ghost use Rattle.std.specs.Prelude.{◌≡◌, ◌≤◌, List, length, take};
+ghost use Rattle.steps.specs.declared.Step.{Step};
+ghost use Rattle.named.specs.Named.{list_steps, defaulted};
 
-use operators::Number;
+use std::marker::Model;
 use steps::Step;
 
 // With its ratio, its height, or both in this order.
 #[derive(Clone, Copy)]
 pub enum NamedList {
-    Bevel(Number, Number),
-    Expand(Number),
-    Join(Number),
-    Medial(Number, Number),
-    Meta(Number, Number),
-    Needle(Number),
-    Ortho(Number),
-    Snub(Number, Number),
-    Truncate(Number),
-    Zip(Number),
+    Bevel(Option<f32>, Option<f32>),
+    Expand(Option<f32>),
+    Join(Option<f32>),
+    Medial(Option<f32>, Option<f32>),
+    Meta(Option<f32>, Option<f32>),
+    Needle(Option<f32>),
+    Ortho(Option<f32>),
+    Snub(Option<f32>, Option<f32>),
+    Truncate(Option<f32>),
+    Zip(Option<f32>),
 }
 
-// Sixteen steps that start with these six.
-fn six(a: Step, b: Step, c: Step, d: Step, e: Step, f: Step) -> [Step; 16]
-    ensures { result ≡ a ∷ b ∷ c ∷ d ∷ e ∷ f ∷ Dual ∷ Dual ∷ Dual ∷ Dual ∷ Dual ∷ Dual ∷ Dual ∷ Dual ∷ Dual ∷ Dual ∷ [] }
-{
-    let z = Step::Dual;
-    [a, b, c, d, e, f, z, z, z, z, z, z, z, z, z, z]
+// The steps of a list: the first `count` of these.
+#[derive(Drop)]
+pub struct Steps {
+    steps: [Step; 6],
+    count: usize,
 }
 
-// The steps of a list; past its own there are duals, which nothing reads.
-pub fn steps_of(l: NamedList) -> [Step; 16]
-    ensures { result ≡ sixteen l }
-{
-    let d = Step::Dual;
-    match l {
-        NamedList::Bevel(t, h) => six(Step::Ambo(t), d, Step::Kis(h), d, d, d),
-        NamedList::Expand(t) => six(Step::Ambo(t), Step::Ambo(t), d, d, d, d),
-        NamedList::Join(t) => six(d, Step::Ambo(t), d, d, d, d),
-        NamedList::Medial(t, h) => six(Step::Ambo(t), d, Step::Kis(h), d, d, d),
-        NamedList::Meta(t, h) => six(d, Step::Ambo(t), d, Step::Kis(h), d, d),
-        NamedList::Needle(h) => six(d, Step::Kis(h), d, d, d, d),
-        NamedList::Ortho(t) => six(d, Step::Ambo(t), d, d, Step::Ambo(t), d),
-        NamedList::Snub(t, h) => six(d, Step::Gyro(t, h), d, d, d, d),
-        NamedList::Truncate(h) => six(d, Step::Kis(h), d, d, d, d),
-        NamedList::Zip(h) => six(Step::Kis(h), d, d, d, d, d),
+impl Model for Steps {
+    ghost Value = { List Step };
+
+    ghost view = { λ s. take s.count s.steps };
+
+    ghost invariant = { λ s. s.count ≤ 6 };
+}
+
+impl Steps {
+    // These steps.
+    fn of(list: &[Step]) -> Self
+        requires { length list.now ≤ 6 }
+        ensures { result ≡ list.now }
+    {
+        let mut steps = [Step::Dual; 6];
+        steps[..list.len()].copy_from_slice(list);
+        Steps {
+            steps,
+            count: list.len(),
+        }
+    }
+
+    // The steps.
+    pub fn as_slice(&self) -> &[Step]
+        ensures { result.now ≡ self.now }
+    {
+        &self.steps[..self.count]
     }
 }
 
-// How many steps a list has.
-pub fn count_of(l: NamedList) -> usize
-    ensures { result ≡ length (list_steps l) }
+// The steps of a list; join inside meta and ortho counts as its three.
+pub fn steps_of(l: NamedList) -> Steps
+    ensures { result ≡ list_steps l }
 {
+    use NamedList::{Bevel, Expand, Join, Medial, Meta, Needle, Ortho, Snub, Truncate, Zip};
+    use Step::{Ambo, Dual, Gyro, Kis};
     match l {
-        NamedList::Bevel(_, _) => 4,
-        NamedList::Expand(_) => 2,
-        NamedList::Join(_) => 3,
-        NamedList::Medial(_, _) => 5,
-        NamedList::Meta(_, _) => 4,
-        NamedList::Needle(_) => 4,
-        NamedList::Ortho(_) => 6,
-        NamedList::Snub(_, _) => 3,
-        NamedList::Truncate(_) => 3,
-        NamedList::Zip(_) => 2,
+        Bevel(t, h) => Steps::of(&[Ambo(t), Dual, Kis(h), Dual]),
+        Expand(t) => Steps::of(&[Ambo(t), Ambo(t)]),
+        Join(t) => Steps::of(&[Dual, Ambo(t), Dual]),
+        Medial(t, h) => Steps::of(&[Ambo(t), Dual, Kis(h), Dual, Dual]),
+        Meta(t, h) => Steps::of(&[Dual, Ambo(t), Dual, Kis(h)]),
+        Needle(h) => Steps::of(&[Dual, Kis(h), Dual, Dual]),
+        Ortho(t) => Steps::of(&[Dual, Ambo(t), Dual, Dual, Ambo(t), Dual]),
+        Snub(t, h) => Steps::of(&[Dual, Gyro(t, h), Dual]),
+        Truncate(h) => Steps::of(&[Dual, Kis(h), Dual]),
+        Zip(h) => Steps::of(&[Kis(h), Dual]),
     }
 }
 
-// Whether a list takes arities of its own.
+// Whether a list takes arities of its own, where they are given or not.
 pub fn defaults(l: NamedList, given: bool) -> bool
     ensures { result ≡ defaulted l given }
 {
-    match l {
-        NamedList::Bevel(_, _) => false,
-        NamedList::Expand(_) => false,
-        NamedList::Join(_) => false,
-        NamedList::Medial(_, _) => false,
-        NamedList::Meta(_, _) => !given,
-        NamedList::Needle(_) => false,
-        NamedList::Ortho(_) => false,
-        NamedList::Snub(_, _) => false,
-        NamedList::Truncate(_) => false,
-        NamedList::Zip(_) => false,
-    }
+    matches!(l, NamedList::Meta(_, _)) && !given
 }

@@ -4,8 +4,8 @@ use Rattle.std.proofs.Common.{sym, ◌∙◌, ap, arith, eq-eqb, ne_eqb, lt-ltb,
 use Rattle.steps.specs.declared.Step.{Step}
 use Rattle.words.specs.Words.{word_at}
 use Rattle.parts.specs.StepWords.{step_with}
-use Rattle.panel.specs.declared.Filed.{Filed}
-use Rattle.panel.specs.declared.Filed.TheVariants.{Fine, Refused}
+use Rattle.panel.specs.Filed.{Filed}
+use Rattle.panel.specs.Filed.{Fine, Refused}
 use Rattle.panel.specs.Format.{end_at, ending, step_at}
 use Rattle.panel.specs.Laws.{fitted_of}
 

@@ -1,4 +1,5 @@
 -- The panel file: for every run of bytes the refusal, or what the file holds. Definitions only.
+use Rattle.std.specs.Prelude.{Ok, Err}
 use Rattle.std.specs.Prelude.{◌≡◌, cond, List, [], ◌∷◌, ◌++◌, ℕ, zero, suc, ◌+◌, ◌-◌, ◌*◌, ◌/◌, length, replicate, ltb, eqb, Float}
 use Rattle.std.specs.Float.Ieee.{of_bits}
 use Rattle.std.specs.Float.{binary32}
@@ -7,18 +8,18 @@ use Rattle.rule.specs.Flat.{flat, offsets_of}
 use Rattle.steps.specs.declared.Step.{Step}
 use Rattle.steps.specs.declared.Step.TheVariants.{Dual}
 use Rattle.words.specs.Words.{word_at}
-use Rattle.panel.specs.declared.Filed.{Filed}
-use Rattle.panel.specs.declared.Filed.TheVariants.{Fine, Refused}
-use Rattle.parts.specs.declared.Part.{Part}
-use Rattle.parts.specs.declared.Part.TheVariants.{Has, Stops}
+use Rattle.panel.specs.Filed.{Filed}
+use Rattle.panel.specs.Filed.{Fine, Refused}
+use Rattle.parts.specs.Part.{Part}
+use Rattle.parts.specs.Part.{Has, Stops}
 use Rattle.parts.specs.StepWords.{step_with}
 use Rattle.parts.specs.Parts.{count_at, step_says, whole_says, section, faces}
 
 -- ---- is it a file? Its items are tested in reading order; the first that is refused settles the answer
 
 abbrev pub settle : Part → (ℕ → Filed) → Filed
-settle (Has n) k = k n
-settle (Stops number place) k = Refused number place
+settle (Ok n) k = k n
+settle (Err r) k = Refused r.number r.place
 
 -- where the count of positions, the count of faces and the bytes after the last corner stand
 abbrev pub positions_at : ℕ → ℕ
@@ -76,8 +77,8 @@ pub data Reading : Type 0 where
   holds : Contents → Reading
 
 abbrev pub reading_as : List ℕ → Filed → Reading
-reading_as s (Fine n v f c) = holds (contents s n v f)
-reading_as s (Refused number place) = refused number place
+reading_as s (Ok h) = holds (contents s h.steps h.positions h.faces)
+reading_as s (Err r) = refused r.number r.place
 
 unfoldable pub reading : List ℕ → Reading
 reading s = reading_as s (checked s)

@@ -1,21 +1,22 @@
 -- Laws of the whole file: what is known of one that passes, and number 13. Assumes nothing.
+use Rattle.std.specs.Prelude.{Ok, Err}
 use Rattle.std.specs.Prelude.{◌≡◌, refl, Bool, true, false, cond, List, [], ◌∷◌, ◌++◌, ℕ, zero, suc, ◌+◌, ◌-◌, ◌*◌, ◌/◌, ◌<◌, ◌≤◌, length, leb, ltb, eqb, Float}
 use Rattle.std.proofs.Common.{sym, ◌∙◌, ap, ap₂, subst, true≢false, arith, length-append, leb-true, ltb-true, ltb-false, eqb-true}
 use Rattle.std.proofs.lemmas.List.Edits.{sets}
 use Rattle.slices.specs.Lists.{over, sets_over}
 use Rattle.rule.specs.Flat.{flat, offsets_of, length-offsets}
 use Rattle.words.specs.Words.{word_at, whole_at}
-use Rattle.panel.specs.declared.Filed.{Filed}
-use Rattle.panel.specs.declared.Filed.TheVariants.{Fine, Refused}
-use Rattle.parts.specs.declared.Part.{Part}
-use Rattle.parts.specs.declared.Part.TheVariants.{Has, Stops}
+use Rattle.panel.specs.Filed.{Filed}
+use Rattle.panel.specs.Filed.{Fine, Refused}
+use Rattle.parts.specs.Part.{Part}
+use Rattle.parts.specs.Part.{Has, Stops}
 use Rattle.parts.specs.Parts.{and_then, count_at, step_says, whole_says, section, faces}
 use Rattle.parts.specs.Laws.{has-is, apart, count-has, section-has}
 use Rattle.panel.specs.Format.{settle, positions_at, faces_at, end_at, ending, checked, run, float_at, step_at, faces_from, contents, Reading, refused, holds, reading_as, reading, lent, filed_of}
 
 abbrev pub refusal_of : Part → Filed
-refusal_of (Has n) = Refused 0 0
-refusal_of (Stops number place) = Refused number place
+refusal_of (Ok n) = Refused 0 0
+refusal_of (Err r) = Refused r.number r.place
 
 pub settle-stop : (p r : Part) (k : ℕ → Filed) (q : Filed) {a b : ℕ} → r ≡ p → r ≡ Stops a b → q ≡ refusal_of r → q ≡ settle p k
 settle-stop p r k q e h w = w ∙ ap refusal_of h ∙ ap (λ (x : Part). settle x k) (sym h ∙ e)
@@ -45,8 +46,8 @@ faces-more :
     (s : List ℕ) (at sum n c : ℕ) (p : Part) → sum ≤ 1200 → section s at (1200 - sum) 4 (whole_says s 4) ≡ p →
     ((a : ℕ) → sum + a ≤ 1200 → faces s (at + 4 + 4 * a) (sum + a) n ≡ Has c → (c ≡ sum + a + length (flat (faces_from s (at + 4 + 4 * a) n))) × (c ≤ 1200)) →
     and_then p (λ a. faces s (at + 4 + 4 * a) (sum + a) n) ≡ Has c → (c ≡ sum + length (flat (faces_from s at (suc n)))) × (c ≤ 1200)
-faces-more s at sum n c (Stops a b) h q ih e = absurd (apart e)
-faces-more s at sum n c (Has a) h q ih e =
+faces-more s at sum n c (Err r) h q ih e = absurd (apart e)
+faces-more s at sum n c (Ok a) h q ih e =
     let k = section-has s at (1200 - sum) 4 a (whole_says s 4) q in
     let l : a ≤ 1200 - sum = k.1 in
     let d = ih a (omega arith) e in
@@ -71,8 +72,8 @@ pub record Known (s : List ℕ) (n v f c : ℕ) : Type 0 where
   pub long : length s ≡ end_at n v f c
 
 abbrev pub KnownAs : List ℕ → Filed → Type 0
-KnownAs s (Fine n v f c) = Known s n v f c
-KnownAs s (Refused number place) = Unit
+KnownAs s (Ok h) = Known s h.steps h.positions h.faces h.corners
+KnownAs s (Err r) = Unit
 
 known-end :
     (s : List ℕ) (n v f c : ℕ) (b : Bool) → eqb (length s) (end_at n v f c) ≡ b → n ≤ 16 → v ≤ 400 → f ≤ 400 →
@@ -84,28 +85,28 @@ known-end s n v f c true q hn hv hf hc =
 known-corners :
     (s : List ℕ) (n v f : ℕ) (p : Part) → faces s (faces_at n v + 4) 0 f ≡ p → n ≤ 16 → v ≤ 400 → f ≤ 400 → KnownAs s (settle p (λ c. ending s n v f c))
 unfolding ending
-known-corners s n v f (Stops a b) q hn hv hf = tt
-known-corners s n v f (Has c) q hn hv hf =
+known-corners s n v f (Err r) q hn hv hf = tt
+known-corners s n v f (Ok c) q hn hv hf =
     known-end s n v f c (eqb (length s) (end_at n v f c)) refl hn hv hf (let w = faces-has s (faces_at n v + 4) 0 f c (omega arith) q in (omega (arith, w.0), w.1))
 
 known-faces :
     (s : List ℕ) (n v : ℕ) (p : Part) → count_at s (faces_at n v) 400 ≡ p → n ≤ 16 → v ≤ 400 →
     KnownAs s (settle p (λ f. settle (faces s (faces_at n v + 4) 0 f) (λ c. ending s n v f c)))
-known-faces s n v (Stops a b) q hn hv = tt
-known-faces s n v (Has f) q hn hv = known-corners s n v f (faces s (faces_at n v + 4) 0 f) refl hn hv (count-has s (faces_at n v) 400 f q).1
+known-faces s n v (Err r) q hn hv = tt
+known-faces s n v (Ok f) q hn hv = known-corners s n v f (faces s (faces_at n v + 4) 0 f) refl hn hv (count-has s (faces_at n v) 400 f q).1
 
 known-positions :
     (s : List ℕ) (n : ℕ) (p : Part) → section s (positions_at n) 400 12 (whole_says s 12) ≡ p → n ≤ 16 →
     KnownAs s (settle p (λ v. settle (count_at s (faces_at n v) 400) (λ f. settle (faces s (faces_at n v + 4) 0 f) (λ c. ending s n v f c))))
-known-positions s n (Stops a b) q hn = tt
-known-positions s n (Has v) q hn =
+known-positions s n (Err r) q hn = tt
+known-positions s n (Ok v) q hn =
     known-faces s n v (count_at s (faces_at n v) 400) refl hn (section-has s (positions_at n) 400 12 v (whole_says s 12) q).1
 
 known-steps :
     (s : List ℕ) (p : Part) → section s 0 16 16 (step_says s) ≡ p →
     KnownAs s (settle p (λ n. settle (section s (positions_at n) 400 12 (whole_says s 12)) (λ v. settle (count_at s (faces_at n v) 400) (λ f. settle (faces s (faces_at n v + 4) 0 f) (λ c. ending s n v f c)))))
-known-steps s (Stops a b) q = tt
-known-steps s (Has n) q =
+known-steps s (Err r) q = tt
+known-steps s (Ok n) q =
     known-positions s n (section s (positions_at n) 400 12 (whole_says s 12)) refl (section-has s 0 16 16 n (step_says s) q).1
 
 pub known : (s : List ℕ) → KnownAs s (checked s)
@@ -115,8 +116,8 @@ known s = known-steps s (section s 0 16 16 (step_says s)) refl
 -- ---- number 13, by the counts
 
 abbrev pub fitted_of : Filed → ℕ → ℕ → ℕ → Filed
-fitted_of (Refused number place) lo lk lx = Refused number place
-fitted_of (Fine n v f c) lo lk lx = cond (ltb lo (f + 1)) (Refused 13 0) (cond (ltb lk c) (Refused 13 1) (cond (ltb lx (3 * v)) (Refused 13 2) (Fine n v f c)))
+fitted_of (Err r) lo lk lx = Refused r.number r.place
+fitted_of (Ok h) lo lk lx = cond (ltb lo (h.faces + 1)) (Refused 13 0) (cond (ltb lk h.corners) (Refused 13 1) (cond (ltb lx (3 * h.positions)) (Refused 13 2) (Fine h.steps h.positions h.faces h.corners)))
 
 -- a file that passes, and what it holds has room
 pub record Fitting (s : List ℕ) (lo lk lx n v f c : ℕ) : Type 0 where
@@ -126,19 +127,19 @@ pub record Fitting (s : List ℕ) (lo lk lx n v f c : ℕ) : Type 0 where
   pub coords : 3 * v ≤ lx
 
 abbrev pub FittingAs : List ℕ → ℕ → ℕ → ℕ → Filed → Type 0
-FittingAs s lo lk lx (Fine n v f c) = Fitting s lo lk lx n v f c
-FittingAs s lo lk lx (Refused number place) = Unit
+FittingAs s lo lk lx (Ok h) = Fitting s lo lk lx h.steps h.positions h.faces h.corners
+FittingAs s lo lk lx (Err r) = Unit
 
 pub fitting : (s : List ℕ) (lo lk lx : ℕ) (q : Filed) → KnownAs s q → FittingAs s lo lk lx (fitted_of q lo lk lx)
-fitting s lo lk lx (Refused number place) k = tt
-fitting s lo lk lx (Fine n v f c) k = go (ltb lo (f + 1)) (ltb lk c) (ltb lx (3 * v)) refl refl refl
+fitting s lo lk lx (Err r) k = tt
+fitting s lo lk lx (Ok h) k = go (ltb lo (h.faces + 1)) (ltb lk h.corners) (ltb lx (3 * h.positions)) refl refl refl
   where
-    go : (x y z : Bool) → ltb lo (f + 1) ≡ x → ltb lk c ≡ y → ltb lx (3 * v) ≡ z → FittingAs s lo lk lx (cond x (Refused 13 0) (cond y (Refused 13 1) (cond z (Refused 13 2) (Fine n v f c))))
+    go : (x y z : Bool) → ltb lo (h.faces + 1) ≡ x → ltb lk h.corners ≡ y → ltb lx (3 * h.positions) ≡ z → FittingAs s lo lk lx (cond x (Refused 13 0) (cond y (Refused 13 1) (cond z (Refused 13 2) (Fine h.steps h.positions h.faces h.corners))))
     go true y z p q r = tt
     go false true z p q r = tt
     go false false true p q r = tt
     go false false false p q r =
-        record { known = k; offsets = ltb-false lo (f + 1) p; corners = ltb-false lk c q; coords = ltb-false lx (3 * v) r }
+        record { known = k; offsets = ltb-false lo (h.faces + 1) p; corners = ltb-false lk h.corners q; coords = ltb-false lx (3 * h.positions) r }
 
 -- what a file of so many counts holds is as long as they say
 pub filed-is : (s : List ℕ) (n v f c : ℕ) → Known s n v f c → Fine n v f c ≡ filed_of (holds (contents s n v f))
@@ -149,12 +150,12 @@ filed-is s n v f c k =
 
 lent_is : (s : List ℕ) (lo lk lx : ℕ) (q : Filed) → KnownAs s q → lent (reading_as s q) lo lk lx ≡ reading_as s (fitted_of q lo lk lx)
 unfolding contents
-lent_is s lo lk lx (Refused number place) k = refl
-lent_is s lo lk lx (Fine n v f c) k =
-    let w : length (offsets_of (faces_from s (faces_at n v + 4) f)) ≡ f + 1 = length-offsets (faces_from s (faces_at n v + 4) f) ∙ ap (λ (m : ℕ). m + 1) (length-faces s (faces_at n v + 4) f) in
-    rw (w, length_run (float_at s) 4 (positions_at n + 4) (3 * v), ← k.corners) (go (ltb lo (f + 1)) (ltb lk c) (ltb lx (3 * v)))
+lent_is s lo lk lx (Err r) k = refl
+lent_is s lo lk lx (Ok h) k =
+    let w : length (offsets_of (faces_from s (faces_at h.steps h.positions + 4) h.faces)) ≡ h.faces + 1 = length-offsets (faces_from s (faces_at h.steps h.positions + 4) h.faces) ∙ ap (λ (m : ℕ). m + 1) (length-faces s (faces_at h.steps h.positions + 4) h.faces) in
+    rw (w, length_run (float_at s) 4 (positions_at h.steps + 4) (3 * h.positions), ← k.corners) (go (ltb lo (h.faces + 1)) (ltb lk h.corners) (ltb lx (3 * h.positions)))
   where
-    go : (x y z : Bool) → cond x (refused 13 0) (cond y (refused 13 1) (cond z (refused 13 2) (holds (contents s n v f)))) ≡ reading_as s (cond x (Refused 13 0) (cond y (Refused 13 1) (cond z (Refused 13 2) (Fine n v f c))))
+    go : (x y z : Bool) → cond x (refused 13 0) (cond y (refused 13 1) (cond z (refused 13 2) (holds (contents s h.steps h.positions h.faces)))) ≡ reading_as s (cond x (Refused 13 0) (cond y (Refused 13 1) (cond z (Refused 13 2) (Fine h.steps h.positions h.faces h.corners))))
     go true y z = refl
     go false true z = refl
     go false false true = refl

@@ -1,6 +1,7 @@
-pub mod Format
-pub mod Pieces
-pub mod Laws
 pub mod Ends
-pub mod Written
+pub mod Filed
+pub mod Format
+pub mod Laws
+pub mod Pieces
 pub mod Whole
+pub mod Written

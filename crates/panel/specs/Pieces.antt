@@ -3,8 +3,8 @@ use Rattle.std.specs.Prelude.{◌≡◌, refl, List, [], ◌∷◌, ◌++◌, �
 use Rattle.words.specs.Words.{word_at, whole_at}
 use Rattle.parts.specs.StepWords.{one_of, takes_ratio, takes_height, good_step}
 use Rattle.parts.specs.Parts.{count_at, step_says, whole_says, items, section, faces}
-use Rattle.panel.specs.declared.Filed.{Filed}
-use Rattle.panel.specs.declared.Filed.TheVariants.{Fine, Refused}
+use Rattle.panel.specs.Filed.{Filed}
+use Rattle.panel.specs.Filed.{Fine, Refused}
 use Rattle.panel.specs.Format.{ending, checked}
 
 -- a word below 256

@@ -1,15 +1,16 @@
 -- The whole check and the two passes of the reader, from the parts that the code has at hand. Assumes nothing.
+use Rattle.std.specs.Prelude.{Ok, Err}
 use Rattle.std.specs.Prelude.{◌≡◌, refl, List, [], ◌∷◌, ◌++◌, ℕ, ◌+◌, ◌-◌, ◌*◌, ◌<◌, ◌≤◌, length, replicate, Float}
 use Rattle.std.proofs.Common.{sym, ◌∙◌, ap, ap₂, subst, arith}
 use Rattle.std.proofs.lemmas.List.Edits.{sets}
 use Rattle.slices.specs.Lists.{over, sets_over}
 use Rattle.rule.specs.Flat.{flat, offsets_of, length-offsets}
 use Rattle.steps.specs.declared.Step.{Step}
-use Rattle.parts.specs.declared.Part.{Part}
-use Rattle.parts.specs.declared.Part.TheVariants.{Has, Stops}
+use Rattle.parts.specs.Part.{Part}
+use Rattle.parts.specs.Part.{Has, Stops}
 use Rattle.parts.specs.Parts.{count_at, step_says, whole_says, section, faces}
-use Rattle.panel.specs.declared.Filed.{Filed}
-use Rattle.panel.specs.declared.Filed.TheVariants.{Fine, Refused}
+use Rattle.panel.specs.Filed.{Filed}
+use Rattle.panel.specs.Filed.{Fine, Refused}
 use Rattle.panel.specs.Format.{settle, positions_at, faces_at, end_at, ending, checked, run, float_at, step_at, faces_from, contents, Reading, refused, holds, reading_as, reading, lent, filed_of, Read, steps_of, fillers}
 use Rattle.panel.specs.Laws.{refusal_of, settle-stop, settle-on, Known, KnownAs, known, fitted_of, Fitting, FittingAs, fitting, filed-is, reading-is, length_run, length-faces}
 use Rattle.panel.specs.Written.{Placed, PutFaces, step_count}
@@ -131,17 +132,17 @@ read_done s o k o' k' x x' q r w u z {n} {v} {f} {c} e d h ew eu ez px pf =
 -- ---- the steps
 
 few-steps : (s : List ℕ) (q : Filed) → KnownAs s q → step_count q ≤ 16
-few-steps s (Fine n v f c) k = k.few-steps
-few-steps s (Refused number place) k = omega arith
+few-steps s (Ok h) k = k.few-steps
+few-steps s (Err r) k = omega arith
 
 long-steps : (s : List ℕ) (q : Filed) (i : ℕ) → KnownAs s q → i < step_count q → 4 + 16 * i + 16 ≤ length s
-long-steps s (Fine n v f c) i k h = omega (arith, k.long)
-long-steps s (Refused number place) i k h = absurd (omega arith)
+long-steps s (Ok h1) i k h = omega (arith, k.long)
+long-steps s (Err r) i k h = absurd (omega arith)
 
 steps-are : (s : List ℕ) (q : Filed) → steps_of (reading_as s q) ≡ run (step_at s) 16 4 (step_count q)
 unfolding contents run
-steps-are s (Fine n v f c) = refl
-steps-are s (Refused number place) = refl
+steps-are s (Ok h) = refl
+steps-are s (Err r) = refl
 
 pub step_in : (s : List ℕ) (q : Filed) (n i : ℕ) → q ≡ checked s → n ≡ step_count q → i < n → (i < 16) × (4 + 16 * i + 16 ≤ length s)
 step_in s q n i e w h =
@@ -159,3 +160,7 @@ steps_all s q n i l e w h p =
     p ∙ ap (λ (j : ℕ). sets fillers 0 (run (step_at s) 16 4 j)) (h ∙ w)
     ∙ sets_over fillers (run (step_at s) 16 4 (step_count q)) a
     ∙ ap (λ (y : List Step). over y fillers) (sym (steps-are s q) ∙ ap (λ (y : Filed). steps_of (reading_as s y)) e)
+
+-- what a file that is fine is known to hold
+pub known_fine : (s : List ℕ) {n v f c : ℕ} → Fine n v f c ≡ checked s → Known s n v f c
+known_fine s e = subst (KnownAs s) (sym e) (known s)

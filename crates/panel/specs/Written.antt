@@ -1,12 +1,13 @@
 -- Laws of the second pass: what the loops that write have written after so many turns. Assumes nothing.
+use Rattle.std.specs.Prelude.{Ok, Err}
 use Rattle.std.specs.Prelude.{◌≡◌, refl, List, [], ◌∷◌, ◌++◌, ℕ, zero, suc, ◌+◌, ◌-◌, ◌*◌, ◌<◌, ◌≤◌, length, set, Float}
 use Rattle.std.proofs.Common.{sym, ◌∙◌, ap, ap₂, subst, append-nil, add-zero, add-suc, le_of_suc-le-suc, add-one, arith, length-append, set-set}
 use Rattle.std.proofs.lemmas.List.Edits.{sets}
 use Rattle.slices.specs.Lists.{over, sets-push, sets-append, sets_over}
 use Rattle.rule.specs.Flat.{flat, ends, offsets_of, flat_append, flat-one, ends-append, length-offsets}
 use Rattle.words.specs.Words.{word_at}
-use Rattle.panel.specs.declared.Filed.{Filed}
-use Rattle.panel.specs.declared.Filed.TheVariants.{Fine, Refused}
+use Rattle.panel.specs.Filed.{Filed}
+use Rattle.panel.specs.Filed.{Fine, Refused}
 use Rattle.panel.specs.Format.{run, faces_from}
 use Rattle.panel.specs.Laws.{length_run, length-faces, flat-next}
 
@@ -174,5 +175,5 @@ putting-more {s} {from} {o} {k} {i} {at} {sum} {o'} {k'} a k'' w e q =
 
 -- the steps of a checked file
 abbrev pub step_count : Filed → ℕ
-step_count (Fine n v f c) = n
-step_count (Refused number place) = 0
+step_count (Ok h) = h.steps
+step_count (Err r) = 0

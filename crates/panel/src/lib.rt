@@ -2,144 +2,91 @@
 
 #![tactic(auto)]
 
-ghost use Rattle.std.specs.Prelude.{◌≡◌, ◌+◌, ◌*◌, ◌≤◌, length};
+ghost use Rattle.std.specs.Prelude.{◌≡◌, ℕ, ◌+◌, ◌*◌, ◌<◌, ◌≤◌, ◌^◌, length};
 ghost use Rattle.std.proofs.lemmas.List.Edits.{sets};
 ghost use Rattle.slices.specs.Lists.{over};
-ghost use Rattle.words.specs.Words.{word_at};
-ghost use Rattle.panel.specs.Format.{ending, checked, run, float_at, step_at, faces_from, reading, lent, Read, steps_of, fillers};
-ghost use Rattle.panel.specs.Laws.{refusal_of, fitted_of};
-ghost use Rattle.panel.specs.Written.{Placed, PutFaces, step_count};
+ghost use Rattle.mesh.specs.Lent.{IsSameRoom};
+ghost use Rattle.panel.specs.Format.{ending, checked, run, step_at, faces_from, reading, lent, Read, steps_of, fillers};
+ghost use Rattle.panel.specs.Laws.{fitted_of};
+ghost use Rattle.panel.specs.Written.{Placed, PutFaces};
 
-use parts::Part;
+use mesh::{MeshMut, Reason, Refusal};
 use steps::Step;
 
-// What reading a file comes to: how much it holds, or a refusal.
-#[derive(Clone, Copy)]
-pub enum Filed {
-    Fine {
-        steps: u32,
-        positions: u32,
-        faces: u32,
-        corners: u32,
-    },
-    Refused {
-        number: u32,
-        place: u32,
-    },
-}
-
-// The refusal of a part that stops the reading.
-fn refusal(p: Part) -> Filed
-    ensures { result ≡ refusal_of p }
-{
-    match p {
-        Part::Has(_) => Filed::Refused {
-            number: 0,
-            place: 0,
-        },
-        Part::Stops { number, place } => Filed::Refused { number, place },
-    }
+// How much a file holds.
+#[derive(Clone, Copy, PartialEq, Eq, Debug)]
+pub struct Held {
+    pub steps: u32,
+    pub positions: u32,
+    pub faces: u32,
+    pub corners: u32,
 }
 
 // 18 where bytes are left over.
-fn ending_of(bytes: &[u8], n: u32, v: u32, f: u32, c: u32) -> Filed
-    requires { (n ≤ 16) × (v ≤ 400) × (f ≤ 400) × (c ≤ 1200) }
-    ensures { result ≡ ending bytes.now n v f c }
+#[tactic(auto, unfolding(crate::specs::Format::ending))]
+fn ending_of(bytes: &[u8], held: Held) -> Result<Held, Refusal>
+    requires { (held.steps ≤ 16) × (held.positions ≤ 400) × (held.faces ≤ 400) × (held.corners ≤ 1200) }
+    ensures { result ≡ ending bytes.now held.steps held.positions held.faces held.corners }
 {
-    let end = 12 + 16 * n + 12 * v + 4 * f + 4 * c;
-    if bytes.len() == slices::wide(end) {
-        return Filed::Fine {
-            steps: n,
-            positions: v,
-            faces: f,
-            corners: c,
-        };
+    let end = 12 + 16 * held.steps + 12 * held.positions + 4 * held.faces + 4 * held.corners;
+    if bytes.len() != end as usize {
+        return Err(Reason::Left.at(end));
     }
-    Filed::Refused {
-        number: 18,
-        place: end,
-    }
+    Ok(held)
 }
 
 // The whole file checked: numbers 15 to 18.
-pub fn check(bytes: &[u8]) -> Filed
+pub fn check(bytes: &[u8]) -> Result<Held, Refusal>
     ensures { result ≡ checked bytes.now }
 {
-    let listed = parts::steps_part(bytes);
-    let Part::Has(n) = listed else {
-        return refusal(listed);
+    let steps = parts::steps_part(bytes)?;
+    let positions = parts::items_part(bytes, 4 + 16 * steps as usize, 400, 12)?;
+    let at = 8 + 16 * steps as usize + 12 * positions as usize;
+    let faces = parts::count_at(bytes, at, 400)?;
+    let corners = parts::check_faces(bytes, at + 4, faces as usize)?;
+    let held = Held {
+        steps,
+        positions,
+        faces,
+        corners,
     };
-    let placed = parts::items_part(bytes, 4 + 16 * slices::wide(n), 400, 12);
-    let Part::Has(v) = placed else {
-        return refusal(placed);
-    };
-    let at = 8 + 16 * slices::wide(n) + 12 * slices::wide(v);
-    let counted = parts::count_at(bytes, at, 400);
-    let Part::Has(f) = counted else {
-        return refusal(counted);
-    };
-    let cornered = parts::check_faces(bytes, at + 4, slices::wide(f));
-    let Part::Has(c) = cornered else {
-        return refusal(cornered);
-    };
-    ending_of(bytes, n, v, f, c)
+    ending_of(bytes, held)
 }
 
-// 13 where what a good file holds does not fit the lent slices.
-fn fitted(checked: Filed, lo: usize, lk: usize, lx: usize) -> Filed
-    ensures { result ≡ fitted_of checked lo lk lx }
+// 13 where what a good file holds does not fit the lent room.
+fn fitted(held: Held, lo: usize, lk: usize, lx: usize) -> Result<Held, Refusal>
+    ensures { result ≡ fitted_of (Ok held) lo lk lx }
 {
-    let Filed::Fine {
-        steps: _,
-        positions: v,
-        faces: f,
-        corners: c,
-    } = checked
-    else {
-        return checked;
-    };
-    if lo <= slices::wide(f) {
-        return Filed::Refused {
-            number: 13,
-            place: 0,
-        };
+    if lo <= held.faces as usize {
+        return Err(Reason::Room.at(0));
     }
-    if lk < slices::wide(c) {
-        return Filed::Refused {
-            number: 13,
-            place: 1,
-        };
+    if lk < held.corners as usize {
+        return Err(Reason::Room.at(1));
     }
-    if lx / 3 < slices::wide(v) {
-        return Filed::Refused {
-            number: 13,
-            place: 2,
-        };
+    if lx / 3 < held.positions as usize {
+        return Err(Reason::Room.at(2));
     }
-    checked
+    Ok(held)
 }
 
-// n floats from a byte on, stored from the start of `out`.
-fn put_floats(bytes: &[u8], from: usize, n: usize, out: &mut [f32])
-    requires { (from + 4 * n ≤ length bytes.now) × (n ≤ length out.old) }
-    ensures { out.new ≡ sets out.old 0 (run (float_at bytes.now) 4 from n) }
+// What `read` gives at n places, `size` bytes apart from `from` on, stored in `out` from `k` on.
+pub fn put_run<T: Copy, F: Fn(usize) -> T>(
+    from: usize,
+    size: usize,
+    n: usize,
+    out: &mut [T],
+    k: usize,
+    read: F,
+)
+    requires bytes { (size ≤ 16) × (from + size * n < 2 ^ 63) }
+    requires room { k + n ≤ length out.old }
+    requires callable { (at : ℕ) → from ≤ at → at + size ≤ from + size * n → F.pre read at }
+    ensures { (g : ℕ → T) → ((at : ℕ) (x : T) → from ≤ at → at + size ≤ from + size * n → F.post read at x → x ≡ g at) → out.new ≡ sets out.old k (run g size from n) }
 {
-    let mut i = 0;
-    while i < n {
-        out[i] = words::float_of(words::word(bytes, from + 4 * i));
-        i += 1;
-    }
-}
-
-// n words from a byte on, stored in `out` from the place `k` on.
-fn put_words(bytes: &[u8], from: usize, n: usize, out: &mut [u32], k: usize)
-    requires { (from + 4 * n ≤ length bytes.now) × (k + n ≤ length out.old) }
-    ensures { out.new ≡ sets out.old k (run (word_at bytes.now) 4 from n) }
-{
-    let mut i = 0;
-    while i < n {
-        out[k + i] = words::word(bytes, from + 4 * i);
-        i += 1;
+    let mut at = from;
+    for i in 0..n {
+        out[k + i] = read(at);
+        at += size;
     }
 }
 
@@ -151,36 +98,39 @@ fn put_faces(bytes: &[u8], from: usize, n: usize, offsets: &mut [u32], corners: 
     offsets[0] = 0;
     let mut at = from;
     let mut k = 0;
-    let mut i = 0;
-    while i < n {
-        let a = slices::wide(words::word(bytes, at));
-        put_words(bytes, at + 4, a, corners, k);
+    for i in 0..n {
+        let a = words::word(bytes, at) as usize;
+        put_run(at + 4, 4, a, corners, k, |place| words::word(bytes, place));
         k += a;
-        i += 1;
-        offsets[i] = k as u32;
+        offsets[i + 1] = k as u32;
         at += 4 + 4 * a;
     }
 }
 
-// Reads a panel file into lent slices.
-pub fn read(bytes: &[u8], offsets: &mut [u32], corners: &mut [u32], coords: &mut [f32]) -> Filed
-    ensures { Read (lent (reading bytes.now) (length offsets.old) (length corners.old) (length coords.old)) offsets.old corners.old coords.old result offsets.new corners.new coords.new }
+// Reads a panel file into lent room.
+pub fn read(bytes: &[u8], out: &mut MeshMut<'_>) -> Result<Held, Refusal>
+    ensures read { Read (lent (reading bytes.now) (length out.old.offsets.now) (length out.old.corners.now) (length out.old.coords.now)) out.old.offsets.now out.old.corners.now out.old.coords.now result out.new.offsets.now out.new.corners.now out.new.coords.now }
+    ensures same { IsSameRoom out.old out.new }
 {
-    let filed = fitted(check(bytes), offsets.len(), corners.len(), coords.len());
-    let Filed::Fine {
-        steps: n,
-        positions: v,
-        faces: f,
-        corners: _,
-    } = filed
-    else {
-        return filed;
-    };
-    let at = 8 + 16 * slices::wide(n);
-    let many = slices::wide(v);
-    put_floats(bytes, at, 3 * many, coords);
-    put_faces(bytes, at + 12 * many + 4, slices::wide(f), offsets, corners);
-    filed
+    let held = fitted(
+        check(bytes)?,
+        out.offsets.len(),
+        out.corners.len(),
+        out.coords.len(),
+    )?;
+    let at = 8 + 16 * held.steps as usize;
+    let many = held.positions as usize;
+    put_run(at, 4, 3 * many, out.coords, 0, |place| {
+        words::float_of(words::word(bytes, place))
+    });
+    put_faces(
+        bytes,
+        at + 12 * many + 4,
+        held.faces as usize,
+        out.offsets,
+        out.corners,
+    );
+    Ok(held)
 }
 
 // The step at a byte.
@@ -196,34 +146,16 @@ fn step_at(bytes: &[u8], at: usize) -> Step
     )
 }
 
-// How many steps a checked file has; none where it is refused.
-fn steps_in(checked: Filed) -> usize
-    ensures { result ≡ step_count checked }
-{
-    match checked {
-        Filed::Fine {
-            steps,
-            positions: _,
-            faces: _,
-            corners: _,
-        } => slices::wide(steps),
-        Filed::Refused {
-            number: _,
-            place: _,
-        } => 0,
-    }
-}
-
 // The steps of a panel file, with a filler in the places after them; of a refused file none.
 pub fn steps(bytes: &[u8]) -> [Step; 16]
     ensures { result ≡ over (steps_of (reading bytes.now)) fillers }
 {
-    let n = steps_in(check(bytes));
     let mut list = [Step::Dual; 16];
-    let mut i = 0;
-    while i < n {
-        list[i] = step_at(bytes, 4 + 16 * i);
-        i += 1;
-    }
+    let Ok(held) = check(bytes) else {
+        return list;
+    };
+    put_run(4, 16, held.steps as usize, &mut list, 0, |at| {
+        step_at(bytes, at)
+    });
     list
 }

@@ -1,19 +1,20 @@
 -- Laws of the parts: what the loops over them go by, and what a part that passes leaves known. Assumes nothing.
+use Rattle.std.specs.Prelude.{Ok, Err}
 use Rattle.std.specs.Prelude.{◌≡◌, refl, Bool, true, false, cond, List, ℕ, zero, suc, ◌+◌, ◌-◌, ◌*◌, ◌<◌, ◌≤◌, leb}
 use Rattle.std.proofs.Common.{sym, ◌∙◌, ap, true≢false, arith, leb-true}
 use Rattle.std.proofs.Math.Nat.{sub-zero}
 use Rattle.words.specs.Words.{word_at, whole_at}
-use Rattle.parts.specs.declared.Part.{Part}
-use Rattle.parts.specs.declared.Part.TheVariants.{Has, Stops}
+use Rattle.parts.specs.Part.{Part}
+use Rattle.parts.specs.Part.{Has, Stops}
 use Rattle.parts.specs.Parts.{and_then, count_at, whole_says, items, section, faces}
 
 abbrev is_has : Part → Bool
-is_has (Has n) = true
-is_has (Stops a b) = false
+is_has (Ok n) = true
+is_has (Err r) = false
 
 abbrev has_of : Part → ℕ
-has_of (Has n) = n
-has_of (Stops a b) = 0
+has_of (Ok n) = n
+has_of (Err r) = 0
 
 pub has-is : {m n : ℕ} → Has m ≡ Has n → m ≡ n
 has-is e = ap has_of e
@@ -120,12 +121,12 @@ unfolding section
 section-count s at most size n say e = go (count_at s at most) (items say size (at + 4)) e
   where
     inner : (m : ℕ) (x : Part) → and_then x (λ _. Has m) ≡ Has n → Has m ≡ Has n
-    inner m (Has y) e = e
-    inner m (Stops a b) e = absurd (apart e)
+    inner m (Ok y) e = e
+    inner m (Err r) e = absurd (apart e)
 
     go : (p : Part) (q : ℕ → Part) → and_then p (λ m. and_then (q m) (λ _. Has m)) ≡ Has n → p ≡ Has n
-    go (Has m) q e = inner m (q m) e
-    go (Stops a b) q e = absurd (apart e)
+    go (Ok m) q e = inner m (q m) e
+    go (Err r) q e = absurd (apart e)
 
 pub section-has : (s : List ℕ) (at most size n : ℕ) (say : ℕ → Part) → section s at most size say ≡ Has n → (n ≡ word_at s at) × (n ≤ most)
 section-has s at most size n say e = count-has s at most n (section-count s at most size n say e)

@@ -1,4 +1,5 @@
-pub mod StepWords
-pub mod Parts
-pub mod Laws
 pub mod Items
+pub mod Laws
+pub mod Part
+pub mod Parts
+pub mod StepWords

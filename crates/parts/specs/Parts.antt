@@ -1,14 +1,15 @@
 -- The parts of a panel file: what each comes to, in reading order. Definitions only.
+use Rattle.std.specs.Prelude.{Ok, Err}
 use Rattle.std.specs.Prelude.{Bool, cond, List, ℕ, zero, suc, ◌+◌, ◌-◌, ◌*◌, leb}
 use Rattle.words.specs.Words.{word_at, whole_at}
-use Rattle.parts.specs.declared.Part.{Part}
-use Rattle.parts.specs.declared.Part.TheVariants.{Has, Stops}
+use Rattle.parts.specs.Part.{Part}
+use Rattle.parts.specs.Part.{Has, Stops}
 use Rattle.parts.specs.StepWords.{good_step}
 
 -- a part comes to a number that later parts go by, or stops the reading with a number of the table and a byte's place
 abbrev pub and_then : Part → (ℕ → Part) → Part
-and_then (Has n) k = k n
-and_then (Stops number place) k = Stops number place
+and_then (Ok n) k = k n
+and_then (Err r) k = Stops r.number r.place
 
 -- a count or an arity: 15 where it is not whole, 16 where it is over a limit
 unfoldable pub count_at : List ℕ → ℕ → ℕ → Part

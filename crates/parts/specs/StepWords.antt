@@ -2,8 +2,8 @@
 use Rattle.std.specs.Prelude.{Bool, true, false, ◌&&◌, ◌||◌, List, [], ◌∷◌, ℕ, ◌+◌, ◌%◌, ◌/◌, get_or, leb, eqb, Float}
 use Rattle.std.specs.Float.Ieee.{of_bits}
 use Rattle.std.specs.Float.{binary32}
-use Rattle.operators.specs.declared.Number.{Number}
-use Rattle.operators.specs.declared.Number.TheVariants.{Absent, Given}
+use Rattle.operators.specs.Number.{Number}
+use Rattle.std.specs.Prelude.{Some, None}
 use Rattle.steps.specs.declared.Step.{Step}
 use Rattle.steps.specs.declared.Step.TheVariants.{Ambo, Chamfer, Dual, Gyro, Kis, Propellor, Quinto, Reflect, Reverse, Whirl, Triangulate}
 
@@ -42,8 +42,8 @@ good_step code flags ratio height =
 -- ---- the step that they stand for
 
 abbrev pub number_of : Bool → ℕ → Number
-number_of true bits = Given (of_bits binary32 bits)
-number_of false bits = Absent
+number_of true bits = Some (of_bits binary32 bits)
+number_of false bits = None
 
 -- the codes 1 to 11 in order; no other code is read
 unfoldable pub step_of : ℕ → Number → Number → Step

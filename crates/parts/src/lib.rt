@@ -2,84 +2,58 @@
 
 #![tactic(auto)]
 
-ghost use Rattle.std.specs.Prelude.{◌≡◌, ◌+◌, ◌-◌, ◌*◌, ◌<◌, ◌≤◌};
+ghost use Rattle.std.specs.Prelude.{◌≡◌, ℕ, ◌+◌, ◌-◌, ◌*◌, ◌<◌, ◌≤◌};
 ghost use Rattle.parts.specs.StepWords.{takes_ratio, takes_height, good_number, good_step, number_of, step_of, step_with};
+ghost use Rattle.parts.specs.Part.{Part};
 ghost use Rattle.parts.specs.Parts.{count_at, step_says, whole_says, items, section, faces};
 
-use operators::Number;
+use mesh::{Reason, Refusal};
 use steps::Step;
 
-// What a part of a file comes to: a number that later parts go by, or the end of reading.
-#[derive(Clone, Copy)]
-pub enum Part {
-    Has(u32),
-    Stops { number: u32, place: u32 },
-}
-
+#[tactic(auto, unfolding(crate::specs::StepWords::takes_ratio))]
 fn takes_ratio(code: u32) -> bool
     ensures { result ≡ takes_ratio code }
 {
-    match code {
-        1 => true,
-        2 => true,
-        4 => true,
-        6 => true,
-        10 => true,
-        _ => false,
-    }
+    matches!(code, 1 | 2 | 4 | 6 | 10)
 }
 
+#[tactic(auto, unfolding(crate::specs::StepWords::takes_height))]
 fn takes_height(code: u32) -> bool
     ensures { result ≡ takes_height code }
 {
-    match code {
-        4 => true,
-        5 => true,
-        7 => true,
-        10 => true,
-        _ => false,
-    }
+    matches!(code, 4 | 5 | 7 | 10)
 }
 
 // A number is present only where its operator takes one; the bits of an absent one are 0.
 fn good_number(takes: bool, present: bool, bits: u32) -> bool
     ensures { result ≡ good_number takes present bits }
 {
-    if present {
-        return takes;
-    }
-    bits == 0
+    if present { takes } else { bits == 0 }
 }
 
 // A known code, no other flags than 1 and 2, and two good numbers.
+#[tactic(auto, unfolding(crate::specs::StepWords::good_step))]
 pub fn good_step(code: u32, flags: u32, ratio: u32, height: u32) -> bool
     ensures { result ≡ good_step code flags ratio height }
 {
-    if code < 1 {
-        return false;
-    }
-    if code > 11 {
-        return false;
-    }
-    if flags > 3 {
-        return false;
-    }
-    if good_number(takes_ratio(code), flags % 2 == 1, ratio) {
-        return good_number(takes_height(code), flags / 2 % 2 == 1, height);
-    }
-    false
+    1 <= code
+        && code <= 11
+        && flags <= 3
+        && good_number(takes_ratio(code), flags % 2 == 1, ratio)
+        && good_number(takes_height(code), flags / 2 % 2 == 1, height)
 }
 
-fn number_of(present: bool, bits: u32) -> Number
+fn number_of(present: bool, bits: u32) -> Option<f32>
     ensures { result ≡ number_of present bits }
 {
     if present {
-        return Number::Given(words::float_of(bits));
+        Some(words::float_of(bits))
+    } else {
+        None
     }
-    Number::Absent
 }
 
-fn step_of(code: u32, ratio: Number, height: Number) -> Step
+fn step_of(code: u32, ratio: Option<f32>, height: Option<f32>) -> Step
     ensures { result ≡ step_of code ratio height }
 {
     match code {
@@ -107,148 +81,107 @@ pub fn step_with(code: u32, flags: u32, ratio: u32, height: u32) -> Step
 }
 
 // A count or an arity: 15 where it is not whole, 16 where it is over `most`.
-pub fn count_at(bytes: &[u8], at: usize, most: u32) -> Part
+#[tactic(auto, using(words::specs::Words::whole_in), unfolding(crate::specs::Parts::count_at))]
+pub fn count_at(bytes: &[u8], at: usize, most: u32) -> Result<u32, Refusal>
     requires { at < 4294967296 }
     ensures { result ≡ count_at bytes.now at most }
 {
-    if words::whole(bytes, at, 4) {
-        let n = words::word(bytes, at);
-        if n <= most {
-            return Part::Has(n);
-        }
-        return Part::Stops {
-            number: 16,
-            place: at as u32,
-        };
+    if !words::whole(bytes, at, 4) {
+        return Err(Reason::Cut.at(at as u32));
     }
-    Part::Stops {
-        number: 15,
-        place: at as u32,
+    let n = words::word(bytes, at);
+    if n > most {
+        return Err(Reason::Count.at(at as u32));
     }
+    Ok(n)
 }
 
 // A step: 15 where it is not whole, 17 where its words are no step's.
-fn step_says(bytes: &[u8], at: usize) -> Part
+#[tactic(auto, using(words::specs::Words::whole_in), unfolding(crate::specs::Parts::step_says))]
+fn step_says(bytes: &[u8], at: usize) -> Result<u32, Refusal>
     requires { at < 4294967296 }
     ensures { result ≡ step_says bytes.now at }
 {
-    if words::whole(bytes, at, 16) {
-        if good_step(
-            words::word(bytes, at),
-            words::word(bytes, at + 4),
-            words::word(bytes, at + 8),
-            words::word(bytes, at + 12),
-        ) {
-            return Part::Has(0);
-        }
-        return Part::Stops {
-            number: 17,
-            place: at as u32,
-        };
+    if !words::whole(bytes, at, 16) {
+        return Err(Reason::Cut.at(at as u32));
     }
-    Part::Stops {
-        number: 15,
-        place: at as u32,
+    if !good_step(
+        words::word(bytes, at),
+        words::word(bytes, at + 4),
+        words::word(bytes, at + 8),
+        words::word(bytes, at + 12),
+    ) {
+        return Err(Reason::Step.at(at as u32));
     }
-}
-
-// The n steps that follow their count.
-fn check_steps(bytes: &[u8], n: usize) -> Part
-    requires { n ≤ 16 }
-    ensures { result ≡ items (step_says bytes.now) 16 4 n }
-{
-    let mut at = 4;
-    let mut i = 0;
-    while i < n {
-        let says = step_says(bytes, at);
-        let Part::Has(_) = says else {
-            return says;
-        };
-        at += 16;
-        i += 1;
-    }
-    Part::Has(0)
+    Ok(0)
 }
 
 // A position or a corner: 15 where it is not whole.
-fn whole_says(bytes: &[u8], size: usize, at: usize) -> Part
+#[tactic(auto, unfolding(crate::specs::Parts::whole_says))]
+fn whole_says(bytes: &[u8], size: usize, at: usize) -> Result<u32, Refusal>
     requires { at < 4294967296 }
     ensures { result ≡ whole_says bytes.now size at }
 {
-    if words::whole(bytes, at, size) {
-        return Part::Has(0);
+    if !words::whole(bytes, at, size) {
+        return Err(Reason::Cut.at(at as u32));
     }
-    Part::Stops {
-        number: 15,
-        place: at as u32,
-    }
+    Ok(0)
 }
 
-// n items of one size from a byte on: positions, or a face's corners.
-fn check_items(bytes: &[u8], size: usize, from: usize, n: usize) -> Part
-    requires { (size ≤ 16) × (from ≤ 20000) × (n ≤ 1200) }
-    ensures { result ≡ items (whole_says bytes.now size) size from n }
+// n items of one size from a byte on, each judged by `says`.
+fn check_items<F: Fn(usize) -> Result<u32, Refusal>>(
+    size: usize,
+    from: usize,
+    n: usize,
+    says: F,
+) -> Result<u32, Refusal>
+    requires bounds { (size ≤ 16) × (from ≤ 20000) × (n ≤ 1200) }
+    requires callable { (at : ℕ) → at < 4294967296 → F.pre says at }
+    ensures { (say : ℕ → Part) → ((at : ℕ) (r : Part) → at < 4294967296 → F.post says at r → r ≡ say at) → result ≡ items say size from n }
 {
     let mut at = from;
-    let mut i = 0;
-    while i < n {
-        let says = whole_says(bytes, size, at);
-        let Part::Has(_) = says else {
-            return says;
-        };
+    for _ in 0..n {
+        says(at)?;
         at += size;
-        i += 1;
     }
-    Part::Has(0)
+    Ok(0)
 }
 
 // The count of steps and the steps.
-pub fn steps_part(bytes: &[u8]) -> Part
+pub fn steps_part(bytes: &[u8]) -> Result<u32, Refusal>
     ensures { result ≡ section bytes.now 0 16 16 (step_says bytes.now) }
 {
-    let count = count_at(bytes, 0, 16);
-    let Part::Has(n) = count else {
-        return count;
-    };
-    let all = check_steps(bytes, slices::wide(n));
-    let Part::Has(_) = all else {
-        return all;
-    };
-    count
+    let n = count_at(bytes, 0, 16)?;
+    check_items(16, 4, n as usize, |at| step_says(bytes, at))?;
+    Ok(n)
 }
 
 // A count and its items of one size: the positions, or a face.
-pub fn items_part(bytes: &[u8], at: usize, most: u32, size: usize) -> Part
+pub fn items_part(bytes: &[u8], at: usize, most: u32, size: usize) -> Result<u32, Refusal>
     requires { (at ≤ 19996) × (most ≤ 1200) × (size ≤ 16) }
     ensures { result ≡ section bytes.now at most size (whole_says bytes.now size) }
 {
-    let count = count_at(bytes, at, most);
-    let Part::Has(n) = count else {
-        return count;
-    };
-    let all = check_items(bytes, size, at + 4, slices::wide(n));
-    let Part::Has(_) = all else {
-        return all;
-    };
-    count
+    let n = count_at(bytes, at, most)?;
+    check_items(
+        size,
+        at + 4,
+        n as usize,
+        |place| whole_says(bytes, size, place),
+    )?;
+    Ok(n)
 }
 
 // n faces from a byte on: how many corners they have.
-pub fn check_faces(bytes: &[u8], from: usize, n: usize) -> Part
+pub fn check_faces(bytes: &[u8], from: usize, n: usize) -> Result<u32, Refusal>
     requires { (from ≤ 6000) × (n ≤ 400) }
     ensures { result ≡ faces bytes.now from 0 n }
 {
     let mut at = from;
     let mut sum: u32 = 0;
-    let mut i = 0;
-    while i < n {
-        let face = items_part(bytes, at, 1200 - sum, 4);
-        let Part::Has(a) = face else {
-            return face;
-        };
-        at += 4 + 4 * slices::wide(a);
+    for _ in 0..n {
+        let a = items_part(bytes, at, 1200 - sum, 4)?;
+        at += 4 + 4 * a as usize;
         sum += a;
-        i += 1;
     }
-    Part::Has(sum)
+    Ok(sum)
 }

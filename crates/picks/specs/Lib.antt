@@ -1,3 +1,4 @@
+pub mod Ready
 pub mod Picks
 pub mod Runs
 pub mod Laws

@@ -1,5 +1,5 @@
 -- Which faces are picked: each mask that is given allows the face. Definitions only.
-use Rattle.std.specs.Prelude.{Bool, true, false, cond, ◌&&◌, List, ℕ, length, Float}
+use Rattle.std.specs.Prelude.{Bool, true, cond, ◌&&◌, List, ℕ, length, Float}
 use Rattle.slices.specs.First.{any, is_at}
 use Rattle.faces.specs.Regular.{regular_of}
 use Rattle.mesh.specs.Mesh.{arity, run}

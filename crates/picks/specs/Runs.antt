@@ -1,5 +1,5 @@
--- The run of a face, as a helper on one face needs it, and as the code cuts it out. Assumes nothing.
-use Rattle.std.specs.Prelude.{◌≡◌, List, ℕ, ◌-◌, ◌<◌, ◌≤◌, length, take, drop, Float}
+-- The run of a face, as a helper on one face needs it. Assumes nothing.
+use Rattle.std.specs.Prelude.{◌≡◌, List, ℕ, ◌+◌, ◌*◌, ◌<◌, ◌≤◌, length, get_or, Float}
 use Rattle.std.proofs.Common.{arith}
 use Rattle.faces.specs.Face.{InReach}
 use Rattle.faces.specs.FaceLaws.{length_part, part-reach}
@@ -29,11 +29,12 @@ run_of o k x f s r h =
       reach = part-reach x k (start o f) (arity o f) (omega arith) r;
     }
 
--- the bounds of the run as the code reads them
-pub cut-ends : (o k : List ℕ) (x : List Float) (f a b : ℕ) → a ≡ start o f → b ≡ end o f → Run o k x f → (a ≤ b) × (b ≤ length k)
-cut-ends o k x f a b e g r = rw (e, g) (r.rising, r.within)
+-- the parts of it that the code needs by themselves
+pub run_within : (o k : List ℕ) (f : ℕ) → Faced o k → f < faces o → end o f ≤ length k
+run_within o k f s h = end-le o (length k) s.shaped f h
 
--- and the run between them
-pub cut-run : (o k : List ℕ) (x : List Float) (f a b : ℕ) → a ≡ start o f → b ≡ end o f → Run o k x f
-    → ((0 < length (take (b - a) (drop a k))) × (length (take (b - a) (drop a k)) ≤ 60000)) × InReach x (take (b - a) (drop a k))
-cut-run o k x f a b e g r = rw (e, g) ((r.some, r.few), r.reach)
+pub run_long : (o k : List ℕ) (f : ℕ) → Faced o k → f < faces o → length (run o k f) ≡ arity o f
+run_long o k f s h = let a = s.shaped.rises f h in let b = run_within o k f s h in length_part k (start o f) (arity o f) (omega arith)
+
+pub run_reach : (o k : List ℕ) (x : List Float) (f i : ℕ) → Faced o k → InReach x k → f < faces o → i < length (run o k f) → get_or (run o k f) i 0 * 3 + 3 ≤ length x
+run_reach o k x f i s r h l = let a = s.shaped.rises f h in let b = run_within o k f s h in part-reach x k (start o f) (arity o f) (omega arith) r i l

@@ -12,85 +12,46 @@ use spots::{Change, Middle, Points, Spot, Tip};
 
 // ---- slots: which vertex, and where it is seen from a corner
 
-const OLD: Slot = Slot {
-    kind: Kind::Old,
-    at: Move::Here,
-};
+macro_rules! slot {
+    ($kind:ident, $at:ident) => {
+        Slot {
+            kind: Kind::$kind,
+            at: Move::$at,
+        }
+    };
+}
 
-const OLD_NEXT: Slot = Slot {
-    kind: Kind::Old,
-    at: Move::Next,
-};
+const OLD: Slot = slot!(Old, Here);
 
-const DIR: Slot = Slot {
-    kind: Kind::Dir,
-    at: Move::Here,
-};
+const OLD_NEXT: Slot = slot!(Old, Next);
 
-const DIR_NEXT: Slot = Slot {
-    kind: Kind::Dir,
-    at: Move::Next,
-};
+const DIR: Slot = slot!(Dir, Here);
 
-const DIR_PREV: Slot = Slot {
-    kind: Kind::Dir,
-    at: Move::Prev,
-};
+const DIR_NEXT: Slot = slot!(Dir, Next);
 
-const DIR_MATE: Slot = Slot {
-    kind: Kind::Dir,
-    at: Move::Mate,
-};
+const DIR_PREV: Slot = slot!(Dir, Prev);
 
-const DIR_TURN: Slot = Slot {
-    kind: Kind::Dir,
-    at: Move::Turn,
-};
+const DIR_MATE: Slot = slot!(Dir, Mate);
 
-const EDGE: Slot = Slot {
-    kind: Kind::Edge,
-    at: Move::Here,
-};
+const DIR_TURN: Slot = slot!(Dir, Turn);
 
-const EDGE_PREV: Slot = Slot {
-    kind: Kind::Edge,
-    at: Move::Prev,
-};
+const EDGE: Slot = slot!(Edge, Here);
 
-const COR: Slot = Slot {
-    kind: Kind::Cor,
-    at: Move::Here,
-};
+const EDGE_PREV: Slot = slot!(Edge, Prev);
 
-const COR_NEXT: Slot = Slot {
-    kind: Kind::Cor,
-    at: Move::Next,
-};
+const COR: Slot = slot!(Cor, Here);
 
-const COR_PREV: Slot = Slot {
-    kind: Kind::Cor,
-    at: Move::Prev,
-};
+const COR_NEXT: Slot = slot!(Cor, Next);
 
-const COR_MATE: Slot = Slot {
-    kind: Kind::Cor,
-    at: Move::Mate,
-};
+const COR_PREV: Slot = slot!(Cor, Prev);
 
-const COR_MATE_NEXT: Slot = Slot {
-    kind: Kind::Cor,
-    at: Move::MateNext,
-};
+const COR_MATE: Slot = slot!(Cor, Mate);
 
-const FACE: Slot = Slot {
-    kind: Kind::Face,
-    at: Move::Here,
-};
+const COR_MATE_NEXT: Slot = slot!(Cor, MateNext);
 
-const APEX: Slot = Slot {
-    kind: Kind::Apex,
-    at: Move::Here,
-};
+const FACE: Slot = slot!(Face, Here);
+
+const APEX: Slot = slot!(Apex, Here);
 
 // Fills a section up: nothing reads it.
 const IDLE: Slot = OLD;
@@ -189,19 +150,26 @@ const NO_MASK: Mask = Mask {
 
 const KEPT: Points = Points::Olds(Change::Kept);
 
+// No points, no faces: each plan says in what it differs.
+const BLANK: Plan = Plan {
+    asks: Asks::Open,
+    olds: Points::Nothing,
+    first: Points::Nothing,
+    second: Points::Nothing,
+    ratio: 0.0,
+    height: 0.0,
+    mask: NO_MASK,
+    one: NONE,
+    two: NONE,
+};
+
 pub fn reverse() -> Plan
     ensures { result ≡ reverse_plan }
 {
     Plan {
-        asks: Asks::Open,
         olds: KEPT,
-        first: Points::Nothing,
-        second: Points::Nothing,
-        ratio: 0.0,
-        height: 0.0,
-        mask: NO_MASK,
         one: BACKWARD,
-        two: NONE,
+        ..BLANK
     }
 }
 
@@ -209,15 +177,9 @@ pub fn reflect() -> Plan
     ensures { result ≡ reflect_plan }
 {
     Plan {
-        asks: Asks::Open,
         olds: Points::Olds(Change::Flipped),
-        first: Points::Nothing,
-        second: Points::Nothing,
-        ratio: 0.0,
-        height: 0.0,
-        mask: NO_MASK,
         one: BACKWARD,
-        two: NONE,
+        ..BLANK
     }
 }
 
@@ -225,19 +187,13 @@ pub fn triangulate(shorter: bool) -> Plan
     ensures { result ≡ triangulate_plan shorter }
 {
     Plan {
-        asks: Asks::Open,
         olds: KEPT,
-        first: Points::Nothing,
-        second: Points::Nothing,
-        ratio: 0.0,
-        height: 0.0,
-        mask: NO_MASK,
         one: Section {
             shape: Shape::Triangles(shorter),
             slots: [IDLE; 6],
             n: 0,
         },
-        two: NONE,
+        ..BLANK
     }
 }
 
@@ -246,14 +202,11 @@ pub fn ambo(ratio: f32) -> Plan
 {
     Plan {
         asks: Asks::Round,
-        olds: Points::Nothing,
         first: Points::Middles(Middle::Split),
-        second: Points::Nothing,
         ratio,
-        height: 0.0,
-        mask: NO_MASK,
         one: INNER_EDGES,
         two: ROUND_EDGES,
+        ..BLANK
     }
 }
 
@@ -262,14 +215,9 @@ pub fn dual() -> Plan
 {
     Plan {
         asks: Asks::Round,
-        olds: Points::Nothing,
         first: Points::Faces(Spot::Centre),
-        second: Points::Nothing,
-        ratio: 0.0,
-        height: 0.0,
-        mask: NO_MASK,
         one: ROUND_FACES,
-        two: NONE,
+        ..BLANK
     }
 }
 
@@ -280,12 +228,10 @@ pub fn kis(mask: Mask, height: f32) -> Plan
         asks: Asks::Closed,
         olds: KEPT,
         first: Points::Picks(Spot::Apex),
-        second: Points::Nothing,
-        ratio: 0.0,
         height,
         mask,
         one: KIS,
-        two: NONE,
+        ..BLANK
     }
 }
 
@@ -296,12 +242,10 @@ pub fn chamfer(ratio: f32) -> Plan
         asks: Asks::Closed,
         olds: Points::Olds(Change::Scaled),
         first: Points::Corners(Tip::Inset),
-        second: Points::Nothing,
         ratio,
-        height: 0.0,
-        mask: NO_MASK,
         one: INNER_CORNERS,
         two: CHAMFER,
+        ..BLANK
     }
 }
 
@@ -315,9 +259,8 @@ pub fn gyro(ratio: f32, height: f32) -> Plan
         second: Points::Pairs,
         ratio,
         height,
-        mask: NO_MASK,
         one: GYRO,
-        two: NONE,
+        ..BLANK
     }
 }
 
@@ -328,12 +271,10 @@ pub fn propellor(ratio: f32) -> Plan
         asks: Asks::Closed,
         olds: KEPT,
         first: Points::Pairs,
-        second: Points::Nothing,
         ratio,
-        height: 0.0,
-        mask: NO_MASK,
         one: INNER_DIRS,
         two: PROPELLOR,
+        ..BLANK
     }
 }
 
@@ -347,9 +288,9 @@ pub fn whirl(ratio: f32, height: f32) -> Plan
         second: Points::Pairs,
         ratio,
         height,
-        mask: NO_MASK,
         one: WHIRL,
         two: INNER_CORNERS,
+        ..BLANK
     }
 }
 
@@ -361,10 +302,9 @@ pub fn quinto(height: f32) -> Plan
         olds: KEPT,
         first: Points::Middles(Middle::Sum),
         second: Points::Corners(Tip::Third),
-        ratio: 0.0,
         height,
-        mask: NO_MASK,
         one: INNER_CORNERS,
         two: QUINTO,
+        ..BLANK
     }
 }

@@ -1,10 +1,10 @@
--- Numbers that are not finite: the first of a list. And the finite test by comparison, as the code has it. Assumes nothing.
-use Rattle.std.specs.Prelude.{◌≡◌, refl, Bool, true, false, not, List, ℕ, length, get_or, Float}
-use Rattle.std.proofs.Common.{sym, ap, ◌∙◌}
-use Rattle.slices.specs.First.{first}
-use Rattle.std.specs.Float.{nan, inf, fin, binary32}
-use Rattle.std.specs.Float.Ieee.{of_bits, div, neg, lt}
+-- Numbers that are not finite: the first of a list. And the two tests as std has them. Assumes nothing.
+use Rattle.std.specs.Prelude.{◌≡◌, refl, Bool, true, false, cond, not, List, [], ◌∷◌, ℕ, suc, ◌+◌, length, get_or, Option, Float, position}
+use Rattle.std.proofs.Common.{◌∙◌, arith}
+use Rattle.std.specs.List.{position_or_len}
+use Rattle.std.specs.Float.{float_is_finite, nan, inf, fin}
 use Rattle.std.specs.Float.Ieee.Scale.{finite}
+use Rattle.slices.specs.First.{first, lowest}
 
 -- the number at i is not finite
 abbrev pub not_finite : List Float → ℕ → Bool
@@ -14,32 +14,24 @@ not_finite x i = not (finite (get_or x i nan))
 abbrev pub first_bad : List Float → ℕ
 first_bad x = first (not_finite x) (length x)
 
--- ---- the test by comparison
+-- what std's test answers
+pub finite-is : (x : Float) → float_is_finite x ≡ finite x
+unfolding float_is_finite
+finite-is nan = refl
+finite-is (inf s) = refl
+finite-is (fin s m d) = refl
 
--- 1 / 0, as the code has it
-abbrev pub endless : Float
-endless = div binary32 (of_bits binary32 0x3f80_0000) (of_bits binary32 0)
+-- what std's search answers
+onward : (p : Float → Bool) (x : List Float) (b : Bool) → position_or_len p x ≡ first (λ i. p (get_or x i nan)) (length x)
+    → cond (not b) (1 + position_or_len p x) 0 ≡ cond b 0 (suc (first (λ i. p (get_or x i nan)) (length x)))
+onward p x true e = refl
+onward p x false e = omega (arith, e)
 
-pub endless-is : endless ≡ inf false
-unfolding div of_bits
-endless-is = refl
+position-first : (p : Float → Bool) (x : List Float) → position_or_len p x ≡ first (λ i. p (get_or x i nan)) (length x)
+unfolding first
+position-first p [] = refl
+position-first p (a ∷ x) = onward p x (p a) (position-first p x)
 
-below : (x : Float) → lt x (inf false) ≡ true → lt (inf true) x ≡ finite x
-unfolding lt
-below nan e = refl
-below (inf true) e = refl
-below (inf false) e = sym e
-below (fin s m d) e = refl
-
-no-below : (x : Float) → lt x (inf false) ≡ false → finite x ≡ false
-unfolding lt
-no-below nan e = refl
-no-below (inf s) e = refl
-no-below (fin s m d) e = e
-
-pub finite-so : (x : Float) → lt x endless ≡ true → lt (neg endless) x ≡ finite x
-unfolding neg
-finite-so x e = ap (λ (y : Float). lt (neg y) x) endless-is ∙ below x (ap (lt x) (sym endless-is) ∙ e)
-
-pub finite-not : (x : Float) → lt x endless ≡ false → finite x ≡ false
-finite-not x e = no-below x (ap (lt x) (sym endless-is) ∙ e)
+pub position_bad : (x : List Float) (r : Option ℕ) → r ≡ position (λ a. not (finite a)) x → r ≡ lowest (not_finite x) (length x)
+unfolding lowest
+position_bad x r e = e ∙ rw (position-first (λ a. not (finite a)) x) refl

@@ -2,10 +2,13 @@
 
 #![tactic(auto)]
 
-ghost use Rattle.std.specs.Prelude.{◌≡◌};
+ghost use Rattle.std.specs.Prelude.{◌≡◌, length};
 ghost use Rattle.point.specs.Vector.{zero_p, add_p, sub_p, scale_p, div_p, dot_p, cross_p, mag_sq_p, mag_p, normalized_p, orthogonal_p, clamp_f};
 ghost use Rattle.std.specs.Float.Ieee.Scale.{finite};
-ghost use Rattle.point.specs.Finite.{first_bad};
+ghost use Rattle.slices.specs.First.{lowest};
+ghost use Rattle.point.specs.Finite.{not_finite};
+
+use std::ops::{Add, Div, Mul, Sub};
 
 #[derive(Clone, Copy)]
 pub struct Point {
@@ -14,57 +17,76 @@ pub struct Point {
     pub z: f32,
 }
 
-impl Point {
-    pub fn zero() -> Self
-        ensures { result ≡ zero_p }
-    {
+// The origin.
+impl Default for Point {
+    ghost is_default = { λ p. p ≡ zero_p };
+
+    fn default() -> Point {
         Point {
             x: 0.0,
             y: 0.0,
             z: 0.0,
         }
     }
+}
 
-    pub fn add(self, q: Point) -> Point
-        ensures { result ≡ add_p self q }
-    {
+impl Add for Point {
+    type Output = Point;
+
+    ghost add_gives = { λ p q r. r ≡ add_p p q };
+
+    fn add(self, q: Point) -> Point {
         Point {
             x: self.x + q.x,
             y: self.y + q.y,
             z: self.z + q.z,
         }
     }
+}
 
-    pub fn sub(self, q: Point) -> Point
-        ensures { result ≡ sub_p self q }
-    {
+impl Sub for Point {
+    type Output = Point;
+
+    ghost sub_gives = { λ p q r. r ≡ sub_p p q };
+
+    fn sub(self, q: Point) -> Point {
         Point {
             x: self.x - q.x,
             y: self.y - q.y,
             z: self.z - q.z,
         }
     }
+}
 
-    pub fn scale(self, k: f32) -> Point
-        ensures { result ≡ scale_p self k }
-    {
+impl Mul<f32> for Point {
+    type Output = Point;
+
+    ghost mul_gives = { λ p k r. r ≡ scale_p p k };
+
+    fn mul(self, k: f32) -> Point {
         Point {
             x: self.x * k,
             y: self.y * k,
             z: self.z * k,
         }
     }
+}
 
-    pub fn div(self, k: f32) -> Point
-        ensures { result ≡ div_p self k }
-    {
+impl Div<f32> for Point {
+    type Output = Point;
+
+    ghost div_gives = { λ p k r. r ≡ div_p p k };
+
+    fn div(self, k: f32) -> Point {
         Point {
             x: self.x / k,
             y: self.y / k,
             z: self.z / k,
         }
     }
+}
 
+impl Point {
     pub fn dot(self, q: Point) -> f32
         ensures { result ≡ dot_p self q }
     {
@@ -90,55 +112,38 @@ impl Point {
     pub fn mag(self) -> f32
         ensures { result ≡ mag_p self }
     {
-        root::root(self.dot(self))
+        root::root(self.mag_sq())
     }
 
     pub fn normalized(self) -> Point
         ensures { result ≡ normalized_p self }
     {
-        self.div(self.mag())
+        self / self.mag()
     }
 }
 
 pub fn orthogonal(p: Point, q: Point, r: Point) -> Point
     ensures { result ≡ orthogonal_p p q r }
 {
-    q.sub(p).cross(r.sub(q))
+    (q - p).cross(r - q)
 }
 
-// Neither a NaN nor an infinity: above the one infinity and below the other.
+// Neither a NaN nor an infinity.
 pub fn is_finite(x: f32) -> bool
     ensures { result ≡ finite x }
 {
-    let inf: f32 = 1.0 / 0.0;
-    if x < inf {
-        return -inf < x;
-    }
-    false
+    x.is_finite()
 }
 
-// The lowest place whose number is not finite, or how many there are.
-pub fn first_not_finite(coords: &[f32]) -> usize
-    ensures { result ≡ first_bad coords.now }
+// The lowest place whose number is not finite.
+pub fn first_not_finite(coords: &[f32]) -> Option<usize>
+    ensures { result ≡ lowest (not_finite coords.now) (length coords.now) }
 {
-    let mut i = 0;
-    while i < coords.len() {
-        if !is_finite(coords[i]) {
-            return i;
-        }
-        i += 1;
-    }
-    i
+    coords.iter().position(|x| !is_finite(*x))
 }
 
 pub fn clamp(x: f32) -> f32
     ensures { result ≡ clamp_f x }
 {
-    if x < 0.0 {
-        return 0.0;
-    }
-    if x > 1.0 {
-        return 1.0;
-    }
-    x
+    x.clamp(0.0, 1.0)
 }

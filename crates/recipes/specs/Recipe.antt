@@ -1,11 +1,12 @@
 -- A recipe with its ledger: what it comes to, and what it leaves in the lent slices. Definitions only.
 use Rattle.std.specs.Prelude.{◌≡◌, cond, List, [], ◌∷◌, ◌++◌, ℕ, take, ltb}
 use Rattle.slices.specs.Lists.{over}
+use Rattle.mesh.specs.declared.MeshMut.{MeshMut}
 use Rattle.plans.specs.Plans.{no_mask}
-use Rattle.engine.specs.declared.Answer.{Answer}
-use Rattle.engine.specs.declared.Answer.TheVariants.{Refused}
+use Rattle.engine.specs.Answer.{Answer, Refused}
 use Rattle.steps.specs.Steps.{Mesh, Room, Masks, masks}
 use Rattle.steps.specs.declared.Step.{Step}
+use Rattle.chain.specs.Lent.{held, space, AreKept}
 use Rattle.chain.specs.Trail.{Trail, trail, stopped, Ended, Zero}
 use Rattle.chain.specs.declared.Row.{Row}
 use Rattle.chain.specs.declared.Ran.{Ran}
@@ -44,3 +45,8 @@ pub record Entered {A : Type 0} (t : Trail) (rows l : List A) (a b z : Mesh) (r 
   pub first : Zero a.offsets a.corners a.coords a'.offsets a'.corners a'.coords
   pub second : Zero b.offsets b.corners b.coords b'.offsets b'.corners b'.coords
   pub ledger : l' ≡ over rows l
+
+-- a call of a recipe with the trail t of the lent rooms, whose ledger holds what `put` makes of the rows: what these hold before and after it
+pub record Enters {A : Type 0} (put : List Row → List A) (t : Room → Room → Room → Trail) (l : List A) (a b z : MeshMut) (r : Answer) (l' : List A) (a' b' z' : MeshMut) : Type 0 where
+  pub entered : Entered (t (space a) (space b) (space z)) (put (t (space a) (space b) (space z)).rows) l (held a) (held b) (held z) r l' (held a') (held b') (held z')
+  pub kept : AreKept a b z a' b' z'

@@ -1,20 +1,22 @@
 -- Laws of recipes and their ledgers in the shape of the code's needs, and that the two forms say the same. Assumes nothing.
-use Rattle.std.specs.Prelude.{◌≡◌, Bool, List, [], ◌∷◌, ◌++◌, ℕ, suc, ◌+◌, ◌*◌, ◌/◌, ◌<◌, ◌≤◌, length, get_or, set, take, drop}
+use Rattle.std.specs.Prelude.{◌≡◌, Bool, List, [], ◌∷◌, ◌++◌, ℕ, ◌+◌, ◌*◌, ◌/◌, ◌<◌, ◌≤◌, length, get_or, take, drop}
 use Rattle.std.proofs.Math.Path.{refl}
-use Rattle.std.proofs.Common.{sym, ◌∙◌, ap, ap₂, subst, arith, add-one, length-take, length-set, length-take-le, take_at, take-suc}
+use Rattle.std.proofs.Common.{sym, ◌∙◌, ap, ap₂, subst, arith, add-one, append_assoc, length-append, length-drop, length-take, length-take-le, take_at, drop_at, drop-drop, take-suc, take_all}
+use borrow.Rule.Slice.PartMut.{put_mid}
 use Rattle.std.proofs.Math.Bool.{true, false, cond}
-use Rattle.std.proofs.lemmas.List.Edits.{sets}
 use Rattle.std.proofs.Math.Dec.{ltb}
 use borrow.Author.Tests.{lt-ltb, le-ltb, ltb-false}
-use Rattle.slices.specs.Lists.{over, sets_over, sets-append}
-use Rattle.engine.specs.declared.Answer.{Answer}
-use Rattle.steps.specs.Steps.{Mesh, Room, mesh, room}
+use Rattle.slices.specs.Lists.{over}
+use Rattle.engine.specs.Answer.{Answer}
+use Rattle.steps.specs.Steps.{Mesh, Room, mesh}
 use Rattle.steps.specs.declared.Step.{Step}
-use Rattle.chain.specs.Trail.{Trail, trail, stopped, Ended, Zero}
+use Rattle.mesh.specs.declared.MeshMut.{MeshMut}
+use Rattle.chain.specs.Lent.{space}
+use Rattle.chain.specs.Trail.{Trail, trail, stopped, Zero}
 use Rattle.chain.specs.ChainLaws.{trail-few}
 use Rattle.chain.specs.declared.Row.{Row}
 use Rattle.chain.specs.declared.Ran.{Ran}
-use Rattle.runner.specs.Run.{run_trail, blanks, Went}
+use Rattle.runner.specs.Run.{run_trail, blanks, Went, Runs}
 use Rattle.recipes.specs.Recipe.{unmasked, recipe_trail, short_ran, blank, flat_row, flat_rows, Entered}
 
 -- a front has no more elements than asked for
@@ -73,13 +75,19 @@ module _ (lent : ℕ) (steps : List Step) (n : ℕ) (w : Mesh) (ra rb rz : Room)
       Went (run_trail unmasked steps n w ra rb rz) a b z r a' b' z' → Went (recipe_trail lent steps n w ra rb rz) a b z r a' b' z'
   went-run {a} {b} {z} {a'} {b'} {z'} {r} h e = subst (λ (t : Trail). Went t a b z r a' b' z') (sym (is-run h)) e
 
--- what a writer of flat rows asks
-pub went-few : (l : List ℕ) (steps : List Step) (n : ℕ) (w : Mesh) (ra rb rz : Room) {a b z a' b' z' : Mesh} {r : Ran} →
-    Went (recipe_trail (length l / 4) steps n w ra rb rz) a b z r a' b' z' → (r.done ≤ 16) × (4 * r.done ≤ length l)
-went-few l steps n w ra rb rz e =
-    let m = rows-most (length l / 4) steps n w ra rb rz in
-    let f = rows_fit (length l / 4) steps n w ra rb rz in
-    (omega (arith, e.done, m), omega (arith, e.done, f))
+pub runs_recipe : (lent : ℕ) (steps : List Step) (n : ℕ) (w : Mesh) {a b z a' b' z' : MeshMut} {r : Ran} → (n ≤ 16 → n ≤ lent) →
+    Runs (run_trail unmasked steps n w) a b z r a' b' z' → Runs (recipe_trail lent steps n w) a b z r a' b' z'
+runs_recipe lent steps n w {a} {b} {z} h e = record { went = went-run lent steps n w (space a) (space b) (space z) h e.went; kept = e.kept }
+
+-- there are 16 rows, and the finished ones among them fit the ledger
+pub rows-in : (lent : ℕ) (steps : List Step) (n : ℕ) (w : Mesh) {a b z a' b' z' : MeshMut} {r : Ran} → Runs (recipe_trail lent steps n w) a b z r a' b' z' →
+    (length r.rows ≡ 16) × ((r.done ≤ 16) × (r.done ≤ lent))
+rows-in lent steps n w {a} {b} {z} h =
+    let e = h.went in
+    let t : List Row = (recipe_trail lent steps n w (space a) (space b) (space z)).rows in
+    let m : length t ≤ 16 = rows-most lent steps n w (space a) (space b) (space z) in
+    let f : length t ≤ lent = rows_fit lent steps n w (space a) (space b) (space z) in
+    (ap length e.rows ∙ omega (arith, length-append t (drop (length t) blanks), length-drop (length t) blanks), (omega (arith, e.done), omega (arith, e.done)))
 
 -- ---- flat rows
 
@@ -108,51 +116,26 @@ flat-more made i h =
     sym (flat_append (take i made) (get_or made i blank ∷ []))
     ∙ ap flat_rows (sym (take-suc made i blank h) ∙ ap (λ (j : ℕ). take j made) (sym (add-one i)))
 
--- one row more
-pub flat-push : (made : List Row) (old : List ℕ) (i at : ℕ) (l l' : List ℕ) → i < length made → at ≡ 4 * i → l ≡ sets old 0 (flat_rows (take i made)) →
-    l' ≡ sets l at (flat_row (get_or made i blank)) → l' ≡ sets old 0 (flat_rows (take (i + 1) made))
-flat-push made old i at l l' h q e w =
+-- one row more, written after those before it
+over-more : (new old more : List ℕ) (a k : ℕ) → length new ≡ a → length more ≡ k → put_mid a k (over new old) more ≡ over (new ++ more) old
+over-more new old more a k e h =
+    let n : length (new ++ more) ≡ a + k = length-append new more ∙ ap₂ (λ (i j : ℕ). i + j) e h in
+    rw (take_at new (drop (length new) old) a e, drop_at new (drop (length new) old) a e, n, e, drop-drop) (sym (append_assoc new more _))
+
+pub flat-push : (made : List Row) (old l more : List ℕ) (i a k : ℕ) → i < length made → a ≡ 4 * i → k ≡ 4 → l ≡ over (flat_rows (take i made)) old → more ≡ flat_row (get_or made i blank) →
+    put_mid a k l more ≡ over (flat_rows (take (i + 1) made)) old
+flat-push made old l more i a k h p q e w =
     let n : length (take i made) ≡ i = length-take-le i made (omega arith) in
-    let m : at ≡ 0 + length (flat_rows (take i made)) = omega (arith, flat-length (take i made)) in
-    w
-    ∙ ap₂ (λ (t : List ℕ) (j : ℕ). sets t j (flat_row (get_or made i blank))) e m
-    ∙ sets-append old 0 (flat_rows (take i made)) (flat_row (get_or made i blank))
-    ∙ ap (sets old 0) (flat-more made i h)
+    let m : length (flat_rows (take i made)) ≡ a = omega (arith, flat-length (take i made)) in
+    ap₂ (put_mid a k) e w
+    ∙ over-more (flat_rows (take i made)) old (flat_row (get_or made i blank)) a k m (sym q)
+    ∙ ap (λ (f : List ℕ). over f old) (flat-more made i h)
 
--- all of them
-pub flat-all : (made : List Row) (old : List ℕ) (i n : ℕ) (l : List ℕ) → i ≡ n → 4 * n ≤ length old → l ≡ sets old 0 (flat_rows (take i made)) → l ≡ over (flat_rows (take n made)) old
-flat-all made old i n l q h e =
-    e
-    ∙ ap (λ (j : ℕ). sets old 0 (flat_rows (take j made))) q
-    ∙ sets_over old (flat_rows (take n made)) (omega (arith, flat-length (take n made), take-few n made))
-
--- four numbers one after the other
-pub in-set : (l : List ℕ) (i x j : ℕ) → j < length l → j < length (set l i x)
-in-set l i x j h = rw length-set h
-
-pub four-sets : (l : List ℕ) (at p q r s : ℕ) → set (set (set (set l at p) (at + 1) q) (at + 2) r) (at + 3) s ≡ sets l at (p ∷ q ∷ r ∷ s ∷ [])
-four-sets l at p q r s =
-    let e : at + 1 ≡ suc at = omega arith in
-    let f : at + 2 ≡ suc (suc at) = omega arith in
-    let g : at + 3 ≡ suc (suc (suc at)) = omega arith in
-    rw (e, f, g) refl
-
--- ---- from the core to the two forms
-
-module _ {t : Trail} {a b z a' b' z' : Mesh} {r : Ran} (e : Went t a b z r a' b' z') where
-  finished : (m : List Row) (k : ℕ) → m ≡ r.rows → k ≡ r.done → take k m ≡ t.rows
-  finished m k p q = ap₂ take (q ∙ e.done) (p ∙ e.rows) ∙ take_at t.rows (drop (length t.rows) blanks) (length t.rows) refl
-
-  answered : {s : Answer} → s ≡ r.answer → Ended t z.offsets z.corners z.coords s z'.offsets z'.corners z'.coords
-  answered p = record { answer = p ∙ e.ended.answer; offsets = e.ended.offsets; corners = e.ended.corners; coords = e.ended.coords }
-
-  pub entered-rows : {s : Answer} {m l l' : List Row} {k : ℕ} → s ≡ r.answer → m ≡ r.rows → k ≡ r.done → l' ≡ over (take k m) l → Entered t t.rows l a b z s l' a' b' z'
-  entered-rows {s} {m} {l} {l'} {k} p q d w =
-      record { ended = answered p; first = e.first; second = e.second; ledger = w ∙ ap (λ (x : List Row). over x l) (finished m k q d) }
-
-  pub entered-flat : {l l' : List ℕ} → l' ≡ over (flat_rows (take r.done r.rows)) l → Entered t (flat_rows t.rows) l a b z r.answer l' a' b' z'
-  entered-flat {l} w =
-      record { ended = answered refl; first = e.first; second = e.second; ledger = w ∙ ap (λ (x : List Row). over (flat_rows x) l) (finished r.rows r.done refl refl) }
+-- the first n of some steps alone
+pub recipe-front : (lent : ℕ) (steps : List Step) (n : ℕ) (w : Mesh) (ra rb rz : Room) → n ≤ length steps →
+    recipe_trail lent (take n steps) (length (take n steps)) w ra rb rz ≡ recipe_trail lent steps n w ra rb rz
+unfolding recipe_trail
+recipe-front lent steps n w ra rb rz h = rw (length-take-le n steps h, take_all n (take n steps) (take-few n steps)) refl
 
 -- ---- the two forms say the same
 

@@ -2,146 +2,71 @@
 
 #![tactic(auto)]
 
-ghost use Rattle.std.specs.Prelude.{◌≡◌, ◌+◌, ◌*◌, ◌/◌, ◌≤◌, length, take};
-ghost use Rattle.std.proofs.lemmas.List.Edits.{sets};
+ghost use Rattle.std.specs.Prelude.{◌≡◌, ◌*◌, ◌/◌, ◌≤◌, length};
 ghost use Rattle.slices.specs.Lists.{over};
-ghost use Rattle.steps.specs.Steps.{mesh, room};
-ghost use Rattle.runner.specs.Run.{Went};
-ghost use Rattle.recipes.specs.Recipe.{recipe_trail, short_ran, flat_row, flat_rows, Entered};
+ghost use Rattle.chain.specs.Lent.{shown};
+ghost use Rattle.runner.specs.Run.{Runs};
+ghost use Rattle.recipes.specs.Recipe.{recipe_trail, flat_row, flat_rows, Enters};
 
 use chain::{Ran, Row};
-use engine::Answer;
+use engine::{Counts, Stop};
+use mesh::{Mesh, MeshMut, Reason};
 use picks::Mask;
-use runner::{run, wipe};
 use steps::Step;
-
-// No step is done, for the ledger is shorter than the recipe.
-fn short() -> Ran
-    ensures { result ≡ short_ran }
-{
-    let none = Row {
-        code: 0,
-        v: 0,
-        e: 0,
-        f: 0,
-    };
-    let answer = Answer::Refused {
-        number: 13,
-        place: 3,
-        step: 0,
-    };
-    Ran {
-        answer,
-        rows: [none; 16],
-        done: 0,
-    }
-}
 
 // The recipe with its rows by value; `lent` is how many rows the ledger has.
 pub fn core(
     lent: usize,
-    steps: [Step; 16],
-    n: usize,
-    io: &[u32],
-    ic: &[u32],
-    ip: &[f32],
-    ao: &mut [u32],
-    ac: &mut [u32],
-    ap: &mut [f32],
-    bo: &mut [u32],
-    bc: &mut [u32],
-    bp: &mut [f32],
-    xo: &mut [u32],
-    xc: &mut [u32],
-    xp: &mut [f32],
+    steps: &[Step],
+    input: Mesh<'_>,
+    a: &mut MeshMut<'_>,
+    b: &mut MeshMut<'_>,
+    out: &mut MeshMut<'_>,
 ) -> Ran
-    ensures { Went (recipe_trail lent steps n (mesh io.now ic.now ip.now) (room ao.old ac.old ap.old) (room bo.old bc.old bp.old) (room xo.old xc.old xp.old)) (mesh ao.old ac.old ap.old) (mesh bo.old bc.old bp.old) (mesh xo.old xc.old xp.old) result (mesh ao.new ac.new ap.new) (mesh bo.new bc.new bp.new) (mesh xo.new xc.new xp.new) }
+    ensures { Runs (recipe_trail lent steps.now (length steps.now) (shown input.entry)) a.old b.old out.old result a.new b.new out.new }
 {
-    if lent < n {
-        if n <= 16 {
-            wipe(ao, ac, ap);
-            wipe(bo, bc, bp);
-            return short();
-        }
+    if lent < steps.len() && steps.len() <= 16 {
+        runner::wipe(a);
+        runner::wipe(b);
+        return runner::none_done(Err(Reason::Room.at(3).into()));
     }
     let mask = Mask {
         arities: false,
         numbers: false,
         regular: false,
     };
-    run(
-        steps,
-        n,
-        mask,
-        &io[..0],
-        &io[..0],
-        io,
-        ic,
-        ip,
-        ao,
-        ac,
-        ap,
-        bo,
-        bc,
-        bp,
-        xo,
-        xc,
-        xp,
-    )
+    runner::run(steps, mask, &[], &[], input, a, b, out)
 }
 
-// Writes a row as four numbers from `at` on.
-fn put_row(ledger: &mut [u32], at: usize, row: Row)
-    requires { at + 4 ≤ length ledger.old }
-    ensures { ledger.new ≡ sets ledger.old at (flat_row row) }
+// A row as four numbers.
+fn flat_row(row: Row) -> [u32; 4]
+    ensures { result ≡ flat_row row }
 {
-    ledger[at] = row.code;
-    ledger[at + 1] = row.v;
-    ledger[at + 2] = row.e;
-    ledger[at + 3] = row.f;
+    [row.code, row.v, row.e, row.f]
 }
 
-// Writes the first n rows as flat numbers, and leaves what follows.
-fn write_flat(ledger: &mut [u32], made: [Row; 16], n: usize)
-    requires { (n ≤ 16) × (4 * n ≤ length ledger.old) }
-    ensures { ledger.new ≡ over (flat_rows (take n made)) ledger.old }
+// Writes rows as flat numbers, and leaves what follows.
+fn write_flat(ledger: &mut [u32], rows: &[Row])
+    requires { 4 * length rows.now ≤ length ledger.old }
+    ensures { ledger.new ≡ over (flat_rows rows.now) ledger.old }
 {
-    let mut i = 0;
-    let mut at = 0;
-    while i < n {
-        let row = made[i];
-        put_row(ledger, at, row);
-        at += 4;
-        i += 1;
+    for (i, row) in rows.iter().enumerate() {
+        ledger[4 * i..4 * i + 4].copy_from_slice(&flat_row(*row));
     }
 }
 
 // The recipe with a ledger of flat numbers: code, V, E, F a row.
 pub fn recipe_flat(
     ledger: &mut [u32],
-    steps: [Step; 16],
-    n: usize,
-    io: &[u32],
-    ic: &[u32],
-    ip: &[f32],
-    ao: &mut [u32],
-    ac: &mut [u32],
-    ap: &mut [f32],
-    bo: &mut [u32],
-    bc: &mut [u32],
-    bp: &mut [f32],
-    xo: &mut [u32],
-    xc: &mut [u32],
-    xp: &mut [f32],
-) -> Answer
-    ensures { Entered (recipe_trail (length ledger.old / 4) steps n (mesh io.now ic.now ip.now) (room ao.old ac.old ap.old) (room bo.old bc.old bp.old) (room xo.old xc.old xp.old)) (flat_rows (recipe_trail (length ledger.old / 4) steps n (mesh io.now ic.now ip.now) (room ao.old ac.old ap.old) (room bo.old bc.old bp.old) (room xo.old xc.old xp.old)).rows) ledger.old (mesh ao.old ac.old ap.old) (mesh bo.old bc.old bp.old) (mesh xo.old xc.old xp.old) result ledger.new (mesh ao.new ac.new ap.new) (mesh bo.new bc.new bp.new) (mesh xo.new xc.new xp.new) }
+    steps: &[Step],
+    input: Mesh<'_>,
+    a: &mut MeshMut<'_>,
+    b: &mut MeshMut<'_>,
+    out: &mut MeshMut<'_>,
+) -> Result<Counts, Stop>
+    ensures { Enters flat_rows (recipe_trail (length ledger.old / 4) steps.now (length steps.now) (shown input.entry)) ledger.old a.old b.old out.old result ledger.new a.new b.new out.new }
 {
-    let lent = ledger.len() / 4;
-    let ran = core(
-        lent, steps, n, io, ic, ip, ao, ac, ap, bo, bc, bp, xo, xc, xp,
-    );
-    let made = ran.rows;
-    let done = ran.done;
-    write_flat(ledger, made, done);
+    let ran = core(ledger.len() / 4, steps, input, a, b, out);
+    write_flat(ledger, &ran.rows[..ran.done]);
     ran.answer
 }

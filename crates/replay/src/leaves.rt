@@ -1,72 +1,55 @@
-// The codes 20 to 23: the root, and what one face gives of its run of corners.
+// The root, and what one face gives of its run of corners.
 
-ghost use Rattle.std.specs.Prelude.{◌≡◌, true, ◌≤◌, length};
+ghost use Rattle.std.specs.Prelude.{◌↔◌, IsTrue};
 ghost use Rattle.faces.specs.Face.{InReach};
 
-use cases::header::Header;
-use cases::line::{Text, put_bits, put_name, put_number, put_point};
+use cases::text::Floats;
+use faces::Run;
+use std::io;
+use std::io::Write;
+
+// The most corners of a face that these functions take.
+const MOST_CORNERS: usize = 60_000;
+
+#[derive(Clone, Copy)]
+pub enum Leaf {
+    Centroid,
+    AverageNormal,
+    IsRegular,
+}
 
 // The root of each pattern.
-pub fn roots(text: &mut Text, h: Header, bits: &[u32]) -> usize
-    requires { h.coords ≤ length bits.now }
-{
-    let mut at = 0;
-    let mut i = 0;
-    while i < h.coords {
-        at = put_bits(text, at, root::root_bits(bits[i]));
-        i += 1;
+pub fn write_roots<W: Write>(bits: &[u32], out: &mut W) -> io::Result<()> {
+    let mut gap = "";
+    for b in bits {
+        write!(out, "{gap}{:08x}", root::root_bits(*b))?;
+        gap = " ";
     }
-    at
+    Ok(())
 }
 
 // Whether each vertex number of the run has its three coordinates.
 fn in_reach(coords: &[f32], face: &[u32]) -> bool
-    ensures { result ≡ true → InReach coords.now face.now }
+    ensures { IsTrue result ↔ InReach coords.now face.now }
 {
-    let mut i = 0;
-    while i < face.len() {
-        let v = face[i] as usize;
-        if coords.len() < v * 3 + 3 {
-            return false;
-        }
-        i += 1;
-    }
-    true
+    face.iter().all(|v| *v as usize * 3 + 3 <= coords.len())
 }
 
-// The answer for the one face of a case, whose run is the corners.
-pub fn one_face(text: &mut Text, h: Header, coords: &[f32], corners: &[u32]) -> usize
-    requires coords_in_bounds { h.coords ≤ length coords.now }
-    requires corners_in_bounds { h.corners ≤ length corners.now }
-{
-    let x = h.coords;
-    let c = h.corners;
-    of_face(text, h.code, &coords[..x], &corners[..c])
-}
-
-fn unfit(text: &mut Text) -> usize {
-    put_name(text, 0, b"unfit")
-}
-
-// 21 the centroid of a face, 22 its average normal, 23 whether it is regular.
-fn of_face(text: &mut Text, code: u32, coords: &[f32], face: &[u32]) -> usize {
-    if face.len() > 60000 {
-        return unfit(text);
+// The leaf of a face, which is handed over as its run of corners.
+pub fn write_leaf<W: Write>(
+    leaf: Leaf,
+    coords: &[f32],
+    face: &[u32],
+    out: &mut W,
+) -> io::Result<()> {
+    if face.len() > MOST_CORNERS || !in_reach(coords, face) {
+        return write!(out, "unfit");
     }
-    if !in_reach(coords, face) {
-        return unfit(text);
+    let run = Run { coords, face };
+    match leaf {
+        Leaf::Centroid => write!(out, "{}", Floats(run.centroid())),
+        Leaf::AverageNormal => write!(out, "{}", Floats(run.average_normal())),
+        Leaf::IsRegular if face.is_empty() => write!(out, "unfit"),
+        Leaf::IsRegular => write!(out, "{}", u8::from(run.is_regular())),
     }
-    if code == 21 {
-        return put_point(text, 0, faces::centroid(coords, face));
-    }
-    if code == 22 {
-        return put_point(text, 0, faces::average_normal(coords, face));
-    }
-    if face.len() == 0 {
-        return unfit(text);
-    }
-    if faces::is_regular(coords, face) {
-        return put_number(text, 0, 1);
-    }
-    put_number(text, 0, 0)
 }

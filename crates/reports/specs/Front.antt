@@ -1,4 +1,5 @@
 -- The longest good file has 11,468 bytes: a reader that is handed one byte more of a file settles it. Assumes nothing.
+use Rattle.std.specs.Prelude.{Ok, Err}
 use Rattle.std.specs.Prelude.{◌≡◌, Bool, true, false, List, length, take, leb}
 use Rattle.std.proofs.Math.Path.{refl, sym, ap}
 use Rattle.std.proofs.Common.{◌∙◌, mul-suc, arith, length-take-le, take_all, get_or-take}
@@ -6,12 +7,12 @@ use Prim.Native.Nat.{ℕ, zero, suc, ◌+◌, ◌-◌, ◌*◌, ◌<◌, ◌≤�
 use Rattle.std.proofs.Math.Nat.{mul-le-mul_left}
 use borrow.Author.Tests.{leb-true, leb-false, le-leb}
 use Rattle.words.specs.Words.{word_at, whole_at}
-use Rattle.parts.specs.declared.Part.{Part}
-use Rattle.parts.specs.declared.Part.TheVariants.{Has, Stops}
+use Rattle.parts.specs.Part.{Part}
+use Rattle.parts.specs.Part.{Has}
 use Rattle.parts.specs.Parts.{and_then, count_at, step_says, whole_says, items, section, faces}
 use Rattle.parts.specs.Laws.{count-has, section-has}
-use Rattle.panel.specs.declared.Filed.{Filed}
-use Rattle.panel.specs.declared.Filed.TheVariants.{Fine, Refused}
+use Rattle.panel.specs.Filed.{Filed}
+use Rattle.panel.specs.Filed.{Fine}
 use Rattle.panel.specs.Format.{settle, positions_at, faces_at, end_at, ending, checked, reading_as, reading, lent}
 use Rattle.panel.specs.Laws.{faces-has, KnownAs, known, fitted_of, reading-is}
 use Rattle.panel.specs.Ends.{end-missed, fit_all}
@@ -19,12 +20,12 @@ use Rattle.panel.specs.Ends.{end-missed, fit_all}
 -- ---- a part that is the same, and what comes after it
 
 then_same : (p q : Part) (k l : ℕ → Part) → p ≡ q → ((n : ℕ) → p ≡ Has n → k n ≡ l n) → and_then p k ≡ and_then q l
-then_same (Has n) q k l e h = h n refl ∙ ap (λ (x : Part). and_then x l) e
-then_same (Stops a b) q k l e h = ap (λ (x : Part). and_then x l) e
+then_same (Ok n) q k l e h = h n refl ∙ ap (λ (x : Part). and_then x l) e
+then_same (Err r) q k l e h = ap (λ (x : Part). and_then x l) e
 
 settle-same : (p q : Part) (k l : ℕ → Filed) → p ≡ q → ((n : ℕ) → p ≡ Has n → k n ≡ l n) → settle p k ≡ settle q l
-settle-same (Has n) q k l e h = h n refl ∙ ap (λ (x : Part). settle x l) e
-settle-same (Stops a b) q k l e h = ap (λ (x : Part). settle x l) e
+settle-same (Ok n) q k l e h = h n refl ∙ ap (λ (x : Part). settle x l) e
+settle-same (Err r) q k l e h = ap (λ (x : Part). settle x l) e
 
 items-same :
     (say says : ℕ → Part) (size at n : ℕ) → ((i : ℕ) → i + size ≤ 11468 → say i ≡ says i) → at + size * n ≤ 11468 → items say size at n ≡ items says size at n
@@ -92,8 +93,8 @@ module _ (s t : List ℕ) (long : 11468 < length s) (long' : 11468 < length t) (
 
   -- neither is a good file, so nothing is read out of either
   refused-same : (q : Filed) → KnownAs s q → reading_as s q ≡ reading_as t q
-  refused-same (Fine n v f c) k = absurd (omega arith)
-  refused-same (Refused number place) k = refl
+  refused-same (Ok h) k = absurd (omega arith)
+  refused-same (Err r) k = refl
 
   reading-same : reading s ≡ reading t
   unfolding reading
@@ -119,9 +120,9 @@ front-reading s m h = go (leb (length s) m) refl
 -- ---- what a good file needs
 
 fitted-all : (s : List ℕ) (lo lk lx : ℕ) (q : Filed) → KnownAs s q → 401 ≤ lo → 1200 ≤ lk → 1200 ≤ lx → fitted_of q lo lk lx ≡ q
-fitted-all s lo lk lx (Refused number place) k ho hk hx = refl
-fitted-all s lo lk lx (Fine n v f c) k ho hk hx =
-    sym (fit_all (Fine n v f c) lo lk lx f c v refl refl (omega arith) refl (omega arith) refl (omega arith))
+fitted-all s lo lk lx (Err r) k ho hk hx = refl
+fitted-all s lo lk lx (Ok h) k ho hk hx =
+    sym (fit_all (Fine h.steps h.positions h.faces h.corners) lo lk lx h.faces h.corners h.positions refl refl (omega arith) refl (omega arith) refl (omega arith))
 
 -- number 13 does not come where as much is lent as the longest file needs
 pub room-enough : (s : List ℕ) (lo lk lx : ℕ) → 401 ≤ lo → 1200 ≤ lk → 1200 ≤ lx → lent (reading s) lo lk lx ≡ reading s

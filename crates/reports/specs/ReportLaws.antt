@@ -1,4 +1,5 @@
 -- Laws of the report in the shape of the code's needs: a refused file, what a good one leaves, its recipe and its lines. Assumes nothing.
+use Rattle.std.specs.Prelude.{Ok, Err}
 use Rattle.std.specs.Prelude.{◌≡◌, ℕ, ◌+◌, ◌*◌, ◌≤◌, length, take, drop, Float}
 use Rattle.std.proofs.Math.Path.{refl, sym, ap, subst}
 use Rattle.std.proofs.Common.{◌∙◌, ap₂, zero-add, arith, length-append, length-take-le, take_at, take_all, le-ltb}
@@ -12,8 +13,8 @@ use Rattle.chain.specs.declared.Ran.{Ran}
 use Rattle.runner.specs.Run.{blanks, Went}
 use Rattle.recipes.specs.Recipe.{unmasked, recipe_trail}
 use Rattle.recipes.specs.RecipeLaws.{rows-most}
-use Rattle.panel.specs.declared.Filed.{Filed}
-use Rattle.panel.specs.declared.Filed.TheVariants.{Fine, Refused}
+use Rattle.panel.specs.Filed.{Filed}
+use Rattle.panel.specs.Filed.{Fine, Refused}
 use Rattle.panel.specs.Format.{Contents, contents, Reading, refused, holds, reading_as, reading, checked, lent, filed_of, Read, steps_of, fillers, faces_at, positions_at, float_at, step_at}
 use Rattle.panel.specs.Laws.{KnownAs, known, filed-is, length_run, length-faces}
 use Rattle.text.specs.Text.{Put}
@@ -25,20 +26,20 @@ use Rattle.reports.specs.Front.{front-reading, room-enough}
 
 -- ---- a recipe and its lines
 
-module _ (steps : List Step) (n : ℕ) (w : Mesh) (a b z : Room) (few : n ≤ 16) (has : length steps ≡ 16) where
+module _ (steps : List Step) (n : ℕ) (w : Mesh) (a b z : Room) (few : n ≤ 16) (has : n ≤ length steps) where
   is-trail : recipe_trail 16 steps n w a b z ≡ trail unmasked (take n steps) 1 w a b z
   unfolding recipe_trail
   is-trail = rw (le-ltb 16 n few) refl
 
   recipe-ends : Ends (answer_to (recipe_trail 16 steps n w a b z)) (length (recipe_trail 16 steps n w a b z).rows) n
   recipe-ends =
-      let l : length (take n steps) ≡ n = length-take-le n steps (omega arith) in
+      let l : length (take n steps) ≡ n = length-take-le n steps has in
       rw is-trail (subst (λ (k : ℕ). Ends (answer_to (trail unmasked (take n steps) 1 w a b z)) (length (trail unmasked (take n steps) 1 w a b z).rows) k) l (trail-ends unmasked (take n steps) 1 w a b z))
 
   pub recipe-lines : {ma mb mz ma' mb' mz' : Mesh} {r : Ran} → Went (recipe_trail 16 steps n w a b z) ma mb mz r ma' mb' mz' → run_lines r n ≡ lines_of (recipe_trail 16 steps n w a b z)
   recipe-lines {r = r} e = lines_are (recipe_trail 16 steps n w a b z) blanks r n e.ended.answer e.rows e.done (rows-most 16 steps n w a b z) recipe-ends
 
-pub recipe-told : (steps : List Step) (n : ℕ) (w : Mesh) (a b z : Room) {ma mb mz ma' mb' mz' : Mesh} {r : Ran} {t : List ℕ} {k : ℕ} {t' : List ℕ} → n ≤ 16 → length steps ≡ 16 →
+pub recipe-told : (steps : List Step) (n : ℕ) (w : Mesh) (a b z : Room) {ma mb mz ma' mb' mz' : Mesh} {r : Ran} {t : List ℕ} {k : ℕ} {t' : List ℕ} → n ≤ 16 → n ≤ length steps →
     Went (recipe_trail 16 steps n w a b z) ma mb mz r ma' mb' mz' → Put (run_lines r n) 0 t k t' → Put (lines_of (recipe_trail 16 steps n w a b z)) 0 t k t'
 recipe-told steps n w a b z {t = t} {k = k} {t' = t'} few has e p = subst (λ (l : List ℕ). Put l 0 t k t') (recipe-lines steps n w a b z few has e) p
 
@@ -46,31 +47,31 @@ recipe-told steps n w a b z {t = t} {k = k} {t' = t'} few has e p = subst (λ (l
 
 -- what the report says of an answer of the reader
 abbrev pub file_says : Filed → List ℕ
-file_says (Fine n v f c) = []
-file_says (Refused number place) = file_line number place
+file_says (Ok h) = []
+file_says (Err r) = file_line r.number r.place
 
 abbrev is_fine : Filed → ℕ
-is_fine (Fine n v f c) = 1
-is_fine (Refused a b) = 0
+is_fine (Ok h) = 1
+is_fine (Err r) = 0
 
 not-both : {a b n v f c : ℕ} → Refused a b ≡ Fine n v f c → ⊥
 not-both e = let z : ◌≡◌ {A = ℕ} 0 1 = ap is_fine e in omega (arith, z)
 
 abbrev steps_said : Filed → ℕ
-steps_said (Fine n v f c) = n
-steps_said (Refused a b) = 0
+steps_said (Ok h) = h.steps
+steps_said (Err r) = 0
 
 abbrev positions_said : Filed → ℕ
-positions_said (Fine n v f c) = v
-positions_said (Refused a b) = 0
+positions_said (Ok h) = h.positions
+positions_said (Err r) = 0
 
 abbrev faces_said : Filed → ℕ
-faces_said (Fine n v f c) = f
-faces_said (Refused a b) = 0
+faces_said (Ok h) = h.faces
+faces_said (Err r) = 0
 
 abbrev corners_said : Filed → ℕ
-corners_said (Fine n v f c) = c
-corners_said (Refused a b) = 0
+corners_said (Ok h) = h.corners
+corners_said (Err r) = 0
 
 -- the front of a run that was written over is what was written
 front-over : {A : Type 0} (new old : List A) (k : ℕ) → k ≡ length new → (take k (over new old) ≡ new) × (k ≤ length (over new old))
@@ -103,23 +104,23 @@ module _ (s : List ℕ) {o k : List ℕ} {x : List Float} {lo lk lx : ℕ} {r : 
 
   held_by : (q : Filed) → checked s ≡ q → KnownAs s q → {n v f c : ℕ} → r ≡ Fine n v f c → Held s o' k' x' n v f c
   unfolding reading contents
-  held_by (Refused a b) p g w = absurd (not-both (sym (all_read.answer ∙ ap (λ (q : Filed). filed_of (reading_as s q)) p) ∙ w))
-  held_by (Fine n' v' f' c') p g {n} {v} {f} {c} w =
-      let h : Contents = contents s n' v' f' in
+  held_by (Err r) p g w = absurd (not-both (sym (all_read.answer ∙ ap (λ (q : Filed). filed_of (reading_as s q)) p) ∙ w))
+  held_by (Ok h1) p g {n} {v} {f} {c} w =
+      let h : Contents = contents s h1.steps h1.positions h1.faces in
       let i : reading s ≡ holds h = ap (reading_as s) p in
-      let t : Fine n v f c ≡ Fine n' v' f' c' = sym w ∙ all_read.answer ∙ ap filed_of i ∙ sym (filed-is s n' v' f' c' g) in
-      let tn : n ≡ n' = ap steps_said t in
-      let tv : v ≡ v' = ap positions_said t in
-      let tf : f ≡ f' = ap faces_said t in
-      let tc : c ≡ c' = ap corners_said t in
+      let t : Fine n v f c ≡ Fine h1.steps h1.positions h1.faces h1.corners = sym w ∙ all_read.answer ∙ ap filed_of i ∙ sym (filed-is s h1.steps h1.positions h1.faces h1.corners g) in
+      let tn : n ≡ h1.steps = ap steps_said t in
+      let tv : v ≡ h1.positions = ap positions_said t in
+      let tf : f ≡ h1.faces = ap faces_said t in
+      let tc : c ≡ h1.corners = ap corners_said t in
       let all : Read (holds h) o k x r o' k' x' = subst (λ (q : Reading). Read q o k x r o' k' x') i all_read in
-      let po = front-over (offsets_of h.faces) o (f + 1) (omega (arith, tf, length-offsets h.faces, length-faces s (faces_at n' v' + 4) f')) in
+      let po = front-over (offsets_of h.faces) o (f + 1) (omega (arith, tf, length-offsets h.faces, length-faces s (faces_at h1.steps h1.positions + 4) h1.faces)) in
       let pk = front-over (flat h.faces) k c (tc ∙ g.corners) in
-      let px = front-over h.coords x (3 * v) (ap (λ (j : ℕ). 3 * j) tv ∙ sym (length_run (float_at s) 4 (positions_at n' + 4) (3 * v'))) in
+      let px = front-over h.coords x (3 * v) (ap (λ (j : ℕ). 3 * j) tv ∙ sym (length_run (float_at s) 4 (positions_at h1.steps + 4) (3 * h1.positions))) in
       record {
         has = h;
         is = i;
-        steps = tn ∙ sym (length_run (step_at s) 16 4 n');
+        steps = tn ∙ sym (length_run (step_at s) 16 4 h1.steps);
         few = omega (arith, tn, g.few-steps);
         offsets = rw all.offsets po;
         corners = rw all.corners pk;

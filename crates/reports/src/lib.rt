@@ -2,16 +2,17 @@
 
 #![tactic(auto)]
 
-ghost use Rattle.std.specs.Prelude.{◌≡◌, ◌≤◌};
-ghost use Rattle.io.specs.Counts.{IsPrefixLen};
+ghost use Rattle.std.specs.Prelude.{◌≡◌, ◌+◌, ◌*◌, ◌≤◌, length, take};
 ghost use Rattle.steps.specs.Steps.{mesh};
+ghost use Rattle.io.specs.Counts.{IsPrefixLen};
+ghost use Rattle.chain.specs.Lent.{shown};
 ghost use Rattle.text.specs.Text.{Put};
 ghost use Rattle.lines.specs.Lines.{lines_of};
 ghost use Rattle.recipes.specs.Recipe.{recipe_trail};
 ghost use Rattle.reports.specs.Report.{roomy, report_of, Holds, ForFile};
-ghost use Rattle.reports.specs.ReportLaws.{file_says};
 
-use panel::Filed;
+use mesh::{Mesh, MeshMut};
+use panel::Held;
 use steps::Step;
 
 // One byte more than the longest good file, so that bytes left over are seen.
@@ -20,33 +21,10 @@ pub const MOST_BYTES: usize = 11469;
 // No report is longer.
 pub const MOST_TEXT: usize = 2550;
 
-// The line of a file that is refused.
-fn put_refusal(text: &mut [u8], filed: Filed) -> usize
-    ensures put { Put (file_says filed) 0 text.old result text.new }
-    ensures upper_bound { result ≤ 2550 }
-{
-    match filed {
-        Filed::Fine {
-            steps: _,
-            positions: _,
-            faces: _,
-            corners: _,
-        } => 0,
-        Filed::Refused { number, place } => lines::put_file(text, number, place),
-    }
-}
-
 // Runs a recipe through meshes of its own, which have room for every result within the limits, and writes its lines.
-fn put_recipe(
-    text: &mut [u8],
-    list: [Step; 16],
-    n: usize,
-    io: &[u32],
-    ic: &[u32],
-    ip: &[f32],
-) -> usize
-    requires { n ≤ 16 }
-    ensures put { Put (lines_of (recipe_trail 16 list n (mesh io.now ic.now ip.now) roomy roomy roomy)) 0 text.old result text.new }
+fn put_recipe(text: &mut [u8], steps: &[Step], input: Mesh<'_>) -> usize
+    requires { length steps.now ≤ 16 }
+    ensures put { Put (lines_of (recipe_trail 16 steps.now (length steps.now) (shown input.entry) roomy roomy roomy)) 0 text.old result text.new }
     ensures upper_bound { result ≤ 2550 }
 {
     let mut ao = [0u32; 60001];
@@ -58,11 +36,35 @@ fn put_recipe(
     let mut xo = [0u32; 60001];
     let mut xc = [0u32; 60000];
     let mut xp = [0.0f32; 180000];
-    let ran = ledger::recorded(
-        list, n, io, ic, ip, &mut ao, &mut ac, &mut ap, &mut bo, &mut bc, &mut bp, &mut xo,
-        &mut xc, &mut xp,
-    );
-    lines::put_lines(text, ran, n)
+    let mut a = MeshMut {
+        offsets: &mut ao,
+        corners: &mut ac,
+        coords: &mut ap,
+    };
+    let mut b = MeshMut {
+        offsets: &mut bo,
+        corners: &mut bc,
+        coords: &mut bp,
+    };
+    let mut out = MeshMut {
+        offsets: &mut xo,
+        corners: &mut xc,
+        coords: &mut xp,
+    };
+    let ran = ledger::recorded(steps, input, &mut a, &mut b, &mut out);
+    lines::put_lines(text, ran, steps.len())
+}
+
+// The mesh of a file that was read, at the front of the room that it was read into.
+fn mesh_of<'a>(room: &'a MeshMut<'_>, held: Held) -> Mesh<'a>
+    requires { (held.faces + 1 ≤ length room.now.offsets.now) × ((held.corners ≤ length room.now.corners.now) × (3 * held.positions ≤ length room.now.coords.now)) }
+    ensures { shown result ≡ mesh (take (held.faces + 1) room.now.offsets.now) (take held.corners room.now.corners.now) (take (3 * held.positions) room.now.coords.now) }
+{
+    Mesh {
+        offsets: &room.offsets[..held.faces as usize + 1],
+        corners: &room.corners[..held.corners as usize],
+        coords: &room.coords[..3 * held.positions as usize],
+    }
 }
 
 // Writes the report of a panel file, and answers how long it is. Where the lent bytes are fewer, its front is written.
@@ -70,25 +72,21 @@ pub fn report(bytes: &[u8], text: &mut [u8]) -> usize
     ensures put { Put (report_of bytes.now) 0 text.old result text.new }
     ensures upper_bound { result ≤ 2550 }
 {
-    let mut fo = [0u32; 401];
-    let mut fc = [0u32; 1200];
-    let mut fp = [0.0f32; 1200];
-    let filed = panel::read(bytes, &mut fo, &mut fc, &mut fp);
-    let Filed::Fine {
-        steps,
-        positions,
-        faces,
-        corners,
-    } = filed
-    else {
-        return put_refusal(text, filed);
+    let mut offsets = [0u32; 401];
+    let mut corners = [0u32; 1200];
+    let mut coords = [0.0f32; 1200];
+    let mut room = MeshMut {
+        offsets: &mut offsets,
+        corners: &mut corners,
+        coords: &mut coords,
     };
-    let n = steps as usize;
-    let eo = (faces as usize) + 1;
-    let ec = corners as usize;
-    let ep = 3 * (positions as usize);
-    let list = panel::steps(bytes);
-    put_recipe(text, list, n, &fo[..eo], &fc[..ec], &fp[..ep])
+    let held = match panel::read(bytes, &mut room) {
+        Ok(held) => held,
+        Err(refusal) => return lines::put_file(text, refusal.number, refusal.place),
+    };
+    let input = mesh_of(&room, held);
+    let steps = panel::steps(bytes);
+    put_recipe(text, &steps[..held.steps as usize], input)
 }
 
 // The same of a file of which the first n bytes were read into `front`: whatever lies past a full `front`, the report is that of the whole file.
@@ -96,10 +94,7 @@ pub fn report_front(front: &[u8; MOST_BYTES], n: usize, text: &mut [u8; MOST_TEX
     ensures for_file { ForFile front.now n (λ file. Holds (report_of file) text.old result text.new) }
     ensures prefix_len { IsPrefixLen result text.new }
 {
-    let mut got = n;
-    if MOST_BYTES < n {
-        got = MOST_BYTES;
-    }
+    let got = n.min(MOST_BYTES);
     let whole: &[u8] = front;
     let lent: &mut [u8] = text;
     report(&whole[..got], lent)

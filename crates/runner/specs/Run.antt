@@ -1,8 +1,10 @@
 -- A run: the steps, or the refusal of too many, and what is left of it in the lent slices. Definitions only.
-use Rattle.std.specs.Prelude.{◌≡◌, cond, List, ℕ, length, take, replicate, ltb, Float}
-use Rattle.slices.specs.Lists.{over, zero_f}
+use Rattle.std.specs.Prelude.{◌≡◌, cond, List, ℕ, length, take, replicate, ltb}
+use Rattle.slices.specs.Lists.{over}
+use Rattle.mesh.specs.declared.MeshMut.{MeshMut}
 use Rattle.steps.specs.Steps.{Mesh, Room, Masks}
 use Rattle.steps.specs.declared.Step.{Step}
+use Rattle.chain.specs.Lent.{held, space, IsKept, AreKept}
 use Rattle.chain.specs.Trail.{Trail, trail, stopped, Ended, Zero}
 use Rattle.chain.specs.declared.Row.{Row}
 use Rattle.chain.specs.declared.Ran.{Ran}
@@ -23,3 +25,13 @@ pub record Went (t : Trail) (a b z : Mesh) (r : Ran) (a' b' z' : Mesh) : Type 0 
   pub second : Zero b.offsets b.corners b.coords b'.offsets b'.corners b'.coords
   pub rows : r.rows ≡ over t.rows blanks
   pub done : r.done ≡ length t.rows
+
+-- a run with the trail t of the lent rooms: what these hold before and after it
+pub record Runs (t : Room → Room → Room → Trail) (a b z : MeshMut) (r : Ran) (a' b' z' : MeshMut) : Type 0 where
+  pub went : Went (t (space a) (space b) (space z)) (held a) (held b) (held z) r (held a') (held b') (held z')
+  pub kept : AreKept a b z a' b' z'
+
+-- lent room that reads zero
+pub record Wipes (m m' : MeshMut) : Type 0 where
+  pub zero : Zero m.offsets.now m.corners.now m.coords.now m'.offsets.now m'.corners.now m'.coords.now
+  pub kept : IsKept m m'

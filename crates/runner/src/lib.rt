@@ -2,105 +2,94 @@
 
 #![tactic(auto)]
 
-ghost use Rattle.steps.specs.Steps.{masks, mesh, room};
-ghost use Rattle.chain.specs.Trail.{Zero};
+ghost use Rattle.std.specs.Prelude.{◌≡◌, length};
+ghost use Rattle.steps.specs.Steps.{masks};
+ghost use Rattle.chain.specs.Lent.{shown, held, space, AreKept};
 ghost use Rattle.chain.specs.Chained.{Chained};
-ghost use Rattle.runner.specs.Run.{blanks, run_trail, Went};
+ghost use Rattle.runner.specs.Run.{blanks, run_trail, Runs, Wipes};
 
 use chain::{Ran, Row};
-use engine::Answer;
+use engine::{Counts, Stop};
+use mesh::{Mesh, MeshMut, Reason};
 use picks::Mask;
 use steps::Step;
 
-// Any number of steps; none copy the mesh.
+// Rows that are not filled yet.
+pub fn blank_rows() -> [Row; 16]
+    ensures { result ≡ blanks }
+{
+    [Row::default(); 16]
+}
+
+// An answer where no step is done.
+pub fn none_done(answer: Result<Counts, Stop>) -> Ran
+    ensures { result ≡ record { answer = answer; rows = blanks; done = 0 } }
+{
+    Ran {
+        answer,
+        rows: blank_rows(),
+        done: 0,
+    }
+}
+
+// At most 16 steps; none copy the mesh.
 fn begin(
-    steps: [Step; 16],
-    n: usize,
+    steps: &[Step],
     mask: Mask,
     arities: &[u32],
     numbers: &[u32],
-    io: &[u32],
-    ic: &[u32],
-    ip: &[f32],
-    ao: &mut [u32],
-    ac: &mut [u32],
-    ap: &mut [f32],
-    bo: &mut [u32],
-    bc: &mut [u32],
-    bp: &mut [f32],
-    xo: &mut [u32],
-    xc: &mut [u32],
-    xp: &mut [f32],
+    input: Mesh<'_>,
+    a: &mut MeshMut<'_>,
+    b: &mut MeshMut<'_>,
+    out: &mut MeshMut<'_>,
 ) -> Ran
-    ensures { Chained (run_trail (masks mask arities.now numbers.now) steps n (mesh io.now ic.now ip.now) (room ao.old ac.old ap.old) (room bo.old bc.old bp.old) (room xo.old xc.old xp.old)) 0 blanks result xo.old xc.old xp.old xo.new xc.new xp.new }
+    ensures chained { Chained (run_trail (masks mask arities.now numbers.now) steps.now (length steps.now) (shown input.entry) (space a.old) (space b.old) (space out.old)) 0 blanks result (held out.old) (held out.new) }
+    ensures kept { AreKept a.old b.old out.old a.new b.new out.new }
 {
-    let none = Row {
-        code: 0,
-        v: 0,
-        e: 0,
-        f: 0,
+    if steps.len() > 16 {
+        return none_done(Err(Reason::Limit.at(3).into()));
+    }
+    let Some((s, rest)) = steps.split_first() else {
+        return none_done(copies::copy(input, out));
     };
-    let rows = [none; 16];
-    if 16 < n {
-        let answer = Answer::Refused {
-            number: 2,
-            place: 3,
-            step: 0,
-        };
-        return Ran {
-            answer,
-            rows,
-            done: 0,
-        };
-    }
-    if n == 0 {
-        let answer = copies::copy(io, ic, ip, xo, xc, xp);
-        return Ran {
-            answer,
-            rows,
-            done: 0,
-        };
-    }
     start::start(
-        steps, n, mask, rows, arities, numbers, io, ic, ip, ao, ac, ap, bo, bc, bp, xo, xc, xp,
+        *s,
+        rest,
+        blank_rows(),
+        mask,
+        arities,
+        numbers,
+        input,
+        a,
+        b,
+        out,
     )
 }
 
 // A work mesh that reads zero.
-pub fn wipe(o: &mut [u32], c: &mut [u32], x: &mut [f32])
-    ensures { Zero o.old c.old x.old o.new c.new x.new }
+pub fn wipe(work: &mut MeshMut<'_>)
+    ensures { Wipes work.old work.new }
 {
-    slices::clear_u32(o);
-    slices::clear_u32(c);
-    slices::clear_f32(x);
+    work.offsets.fill(0);
+    work.corners.fill(0);
+    work.coords.fill(0.0);
 }
 
-// The steps on the mesh i, through the work meshes a and b, into x. Both work meshes read zero on return, whatever came of it.
+// The steps on a mesh, through the work meshes a and b. Both work meshes read zero on return, whatever came of it.
 pub fn run(
-    steps: [Step; 16],
-    n: usize,
+    steps: &[Step],
     mask: Mask,
     arities: &[u32],
     numbers: &[u32],
-    io: &[u32],
-    ic: &[u32],
-    ip: &[f32],
-    ao: &mut [u32],
-    ac: &mut [u32],
-    ap: &mut [f32],
-    bo: &mut [u32],
-    bc: &mut [u32],
-    bp: &mut [f32],
-    xo: &mut [u32],
-    xc: &mut [u32],
-    xp: &mut [f32],
+    input: Mesh<'_>,
+    a: &mut MeshMut<'_>,
+    b: &mut MeshMut<'_>,
+    out: &mut MeshMut<'_>,
 ) -> Ran
-    ensures { Went (run_trail (masks mask arities.now numbers.now) steps n (mesh io.now ic.now ip.now) (room ao.old ac.old ap.old) (room bo.old bc.old bp.old) (room xo.old xc.old xp.old)) (mesh ao.old ac.old ap.old) (mesh bo.old bc.old bp.old) (mesh xo.old xc.old xp.old) result (mesh ao.new ac.new ap.new) (mesh bo.new bc.new bp.new) (mesh xo.new xc.new xp.new) }
+    ensures { Runs (run_trail (masks mask arities.now numbers.now) steps.now (length steps.now) (shown input.entry)) a.old b.old out.old result a.new b.new out.new }
 {
-    let r = begin(
-        steps, n, mask, arities, numbers, io, ic, ip, ao, ac, ap, bo, bc, bp, xo, xc, xp,
-    );
-    wipe(ao, ac, ap);
-    wipe(bo, bc, bp);
-    r
+    let ran = begin(steps, mask, arities, numbers, input, a, b, out);
+    wipe(a);
+    wipe(b);
+    ran
 }

@@ -1,15 +1,14 @@
 -- Lists made number by number, and a lent list that is written over from its front: definitions and their laws.
 -- Assumes nothing.
-use Rattle.std.specs.Prelude.{◌≡◌, Bool, true, false, cond, take, get_or, set, Float}
+use Rattle.std.specs.Prelude.{◌≡◌, Bool, cond, take, get_or, set, Float}
 use Rattle.std.proofs.Math.Path.{refl, ap}
-use Rattle.std.proofs.Common.{sym, ◌∙◌, ap₂, add-zero, add-suc, suc-add, zero-add, not-suc-le-zero, le_of_suc-le-suc, length-take-le, take-suc}
+use Rattle.std.proofs.Common.{sym, ◌∙◌, ap₂, add-zero, add-suc, suc-add, zero-add, length-take-le, take-suc}
 use mathlib.Core.List.{List, [], ◌∷◌, ◌++◌, append_assoc, append-nil}
 use Prim.Native.Nat.{ℕ, zero, suc, ◌+◌, ◌-◌, ◌*◌, ◌<◌, ◌≤◌}
 use Rattle.std.proofs.Math.Numerals.{add-one}
 use native.Mathlib.Omega.{arith}
-use Rattle.std.proofs.Math.ListN.{length, drop, replicate, length-append}
+use Rattle.std.proofs.Math.ListN.{length, drop, length-append}
 use Rattle.std.proofs.lemmas.List.Edits.{sets, sets-eq}
-use Rattle.std.proofs.Math.Seq.{drop-length}
 use Rattle.std.specs.Float.Ieee.{of_bits}
 use Rattle.std.specs.Float.{binary32}
 use Rattle.slices.specs.First.{count}
@@ -84,24 +83,3 @@ module _ {A : Type 0} where
       ap₂ (λ (t : List A) (j : ℕ). set t j x) e (sym m)
       ∙ sets-push old 0 (take i l) x
       ∙ ap (sets old 0) (ap (λ (y : A). take i l ++ (y ∷ [])) q ∙ sym (take-suc l i d h) ∙ ap (λ (j : ℕ). take j l) (sym (add-one i)))
-
-  -- a lent list whose first n elements are v
-  pub filled : List A → A → ℕ → List A
-  filled l v n = replicate n v ++ drop n l
-
-  pub filled_none : (l : List A) (v : A) → l ≡ filled l v 0
-  unfolding filled
-  filled_none l v = refl
-
-  filled-suc : (n : ℕ) (v : A) (l : List A) → n < length l → set (replicate n v ++ drop n l) n v ≡ replicate (suc n) v ++ drop (suc n) l
-  filled-suc n v [] h = absurd (not-suc-le-zero h)
-  filled-suc zero v (x ∷ l) h = refl
-  filled-suc (suc n) v (x ∷ l) h = ap (λ (t : List A). v ∷ t) (filled-suc n v l (le_of_suc-le-suc h))
-
-  pub filled_more : (l : List A) (v : A) (n : ℕ) → n < length l → set (filled l v n) n v ≡ filled l v (n + 1)
-  unfolding filled
-  filled_more l v n h = filled-suc n v l h ∙ ap (λ (k : ℕ). replicate k v ++ drop k l) (sym (add-one n))
-
-  pub filled-all : (l : List A) (v : A) → filled l v (length l) ≡ replicate (length l) v
-  unfolding filled
-  filled-all l v = ap (λ (r : List A). replicate (length l) v ++ r) (drop-length l) ∙ append-nil (replicate (length l) v)

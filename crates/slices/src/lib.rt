@@ -1,10 +1,9 @@
-// Lent slices: reading a number, looking for one, copying, clearing.
+// Lent slices: reading a number, the lowest place at which a test holds, copying.
 #![tactic(auto)]
 
-ghost use Rattle.std.specs.Prelude.{◌≡◌, ◌+◌, ◌<◌, ◌≤◌, length, get_or, replicate};
+ghost use Rattle.std.specs.Prelude.{◌≡◌, ℕ, Bool, ◌+◌, ◌<◌, ◌≤◌, length, get_or};
 ghost use Rattle.std.proofs.lemmas.List.Edits.{sets};
-ghost use Rattle.slices.specs.First.{first, is_at};
-ghost use Rattle.slices.specs.Lists.{zero_f};
+ghost use Rattle.slices.specs.First.{first, is_at, lowest};
 
 pub fn wide(x: u32) -> usize
     ensures { result ≡ x }
@@ -35,63 +34,33 @@ pub fn look(list: &[u32], i: usize) -> usize
     wide(list[i])
 }
 
-// The lowest index below `stop` at which `list` has `x`.
+// The lowest number below `stop` at which a test holds.
+pub fn lowest<F: Fn(usize) -> bool>(stop: usize, test: F) -> Option<usize>
+    requires { (k : ℕ) → k < stop → F.pre test k }
+    ensures { (p : ℕ → Bool) → ((k : ℕ) (b : Bool) → k < stop → F.post test k b → b ≡ p k) → result ≡ lowest p stop }
+{
+    for i in 0..stop {
+        if test(i) {
+            return Some(i);
+        }
+    }
+    None
+}
+
+// The lowest index below `stop` at which `list` has `x`; `stop` where there is none.
+#[tactic(auto, using(crate::specs::First::lowest_or_end))]
 pub fn find(list: &[u32], x: u32, stop: usize) -> usize
     requires { stop ≤ length list.now }
     ensures { result ≡ first (is_at list.now x) stop }
 {
-    let mut i = 0;
-    while i < stop {
-        if list[i] == x {
-            return i;
-        }
-        i += 1;
-    }
-    i
+    lowest(stop, |i| list[i] == x).unwrap_or(stop)
 }
 
 // All of `list` stored from the start of `out`.
-pub fn copy_u32(list: &[u32], out: &mut [u32])
+#[tactic(auto, using(crate::specs::Lists::sets_over))]
+pub fn copy_to_front<T: Copy>(list: &[T], out: &mut [T])
     requires { length list.now ≤ length out.old }
     ensures { out.new ≡ sets out.old 0 list.now }
 {
-    let mut i = 0;
-    while i < list.len() {
-        out[i] = list[i];
-        i += 1;
-    }
-}
-
-// All of `coords` stored from the start of `out`.
-pub fn copy_f32(coords: &[f32], out: &mut [f32])
-    requires { length coords.now ≤ length out.old }
-    ensures { out.new ≡ sets out.old 0 coords.now }
-{
-    let mut i = 0;
-    while i < coords.len() {
-        out[i] = coords[i];
-        i += 1;
-    }
-}
-
-// Zero in every element.
-pub fn clear_u32(list: &mut [u32])
-    ensures { list.new ≡ replicate (length list.old) 0 }
-{
-    let mut i = 0;
-    while i < list.len() {
-        list[i] = 0;
-        i += 1;
-    }
-}
-
-// Zero in every element.
-pub fn clear_f32(list: &mut [f32])
-    ensures { list.new ≡ replicate (length list.old) zero_f }
-{
-    let mut i = 0;
-    while i < list.len() {
-        list[i] = 0.0;
-        i += 1;
-    }
+    out[..list.len()].copy_from_slice(list);
 }

@@ -2,9 +2,14 @@
 
 #![tactic(auto)]
 
-ghost use Rattle.std.specs.Prelude.{◌≡◌, [], ◌∷◌};
+ghost use Rattle.std.specs.Prelude.{◌≡◌, cond, [], ◌∷◌};
 ghost use Rattle.engine.specs.Result.{words_of};
 ghost use Rattle.spelling.specs.Words.{spelled, verdict_words, listing_words, filing, filed_words, writing, written_words, optional, masked};
+
+use engine::{Counts, Stop};
+use mesh::Refusal;
+use panel::Held;
+use picks::Mask;
 
 // An answer: number, place and step of a refusal, or the counts V, E, F; what is not named is 0.
 #[repr(C)]
@@ -70,68 +75,59 @@ fn refusal(number: u32, place: u32, step: u32) -> Words
 }
 
 // The words of an answer.
-pub fn spell(a: engine::Answer) -> Words
-    ensures { spelled result ≡ words_of a }
+pub fn spell(answer: Result<Counts, Stop>) -> Words
+    ensures { spelled result ≡ words_of answer }
 {
-    match a {
-        engine::Answer::Done(c) => counted(c.v, c.e, c.f),
-        engine::Answer::Refused {
-            number,
-            place,
-            step,
-        } => refusal(number, place, step),
+    match answer {
+        Ok(c) => counted(c.v, c.e, c.f),
+        Err(stop) => refusal(stop.number, stop.place, stop.step),
     }
 }
 
 // The words of a verdict: its number and place.
-pub fn spell_verdict(v: mesh::Verdict) -> Words
-    ensures { spelled result ≡ verdict_words v }
+pub fn spell_verdict(verdict: Result<(), Refusal>) -> Words
+    ensures { spelled result ≡ verdict_words verdict }
 {
-    let n = verdicts::number_of(v);
-    let p = verdicts::place_of(v);
+    let n = verdicts::number_of(verdict);
+    let p = verdicts::place_of(verdict);
     refusal(n, p, 0)
 }
 
 // The words of a listing: the number of edges stands at E.
-pub fn spell_listing(l: edges::Listing) -> Words
-    ensures { spelled result ≡ listing_words l }
+pub fn spell_listing(listing: Result<u32, Refusal>) -> Words
+    ensures { spelled result ≡ listing_words listing }
 {
-    match l {
-        edges::Listing::Listed { edges } => counted(0, edges, 0),
-        edges::Listing::Refused { number, place } => refusal(number, place, 0),
+    match listing {
+        Ok(edges) => counted(0, edges, 0),
+        Err(why) => refusal(why.number, why.place, 0),
     }
 }
 
 // ---- the panel file
 
 // The words of a file that is fine.
-fn held(steps: u32, positions: u32, faces: u32, corners: u32) -> Filing
-    ensures { filing result ≡ 0 ∷ 0 ∷ steps ∷ positions ∷ faces ∷ corners ∷ [] }
+fn fine(held: Held) -> Filing
+    ensures { filing result ≡ filed_words (Ok held) }
 {
     Filing {
         number: 0,
         place: 0,
-        steps,
-        positions,
-        faces,
-        corners,
+        steps: held.steps,
+        positions: held.positions,
+        faces: held.faces,
+        corners: held.corners,
     }
 }
 
 // The words of what was filed.
-pub fn spell_filed(f: panel::Filed) -> Filing
-    ensures { filing result ≡ filed_words f }
+pub fn spell_filed(filed: Result<Held, Refusal>) -> Filing
+    ensures { filing result ≡ filed_words filed }
 {
-    match f {
-        panel::Filed::Fine {
-            steps,
-            positions,
-            faces,
-            corners,
-        } => held(steps, positions, faces, corners),
-        panel::Filed::Refused { number, place } => Filing {
-            number,
-            place,
+    match filed {
+        Ok(held) => fine(held),
+        Err(why) => Filing {
+            number: why.number,
+            place: why.place,
             steps: 0,
             positions: 0,
             faces: 0,
@@ -141,18 +137,18 @@ pub fn spell_filed(f: panel::Filed) -> Filing
 }
 
 // The words of what was written.
-pub fn spell_written(w: writer::Written) -> Writing
-    ensures { writing result ≡ written_words w }
+pub fn spell_written(written: Result<u32, Refusal>) -> Writing
+    ensures { writing result ≡ written_words written }
 {
-    match w {
-        writer::Written::Done(bytes) => Writing {
+    match written {
+        Ok(bytes) => Writing {
             number: 0,
             place: 0,
             bytes,
         },
-        writer::Written::Refused { number, place } => Writing {
-            number,
-            place,
+        Err(why) => Writing {
+            number: why.number,
+            place: why.place,
             bytes: 0,
         },
     }
@@ -161,21 +157,24 @@ pub fn spell_written(w: writer::Written) -> Writing
 // ---- what is handed in
 
 // A number that may be absent.
-pub fn optional(given: bool, x: f32) -> operators::Number
+pub fn optional(given: bool, x: f32) -> Option<f32>
     ensures { result ≡ optional given x }
 {
-    if given {
-        operators::Number::Given(x)
-    } else {
-        operators::Number::Absent
-    }
+    given.then_some(x)
+}
+
+// A list that may be absent.
+pub fn listed<'a>(given: bool, list: &'a [u32]) -> Option<&'a [u32]>
+    ensures { result ≡ cond given (Some list.entry) None }
+{
+    if given { Some(list) } else { None }
 }
 
 // Which masks are given.
-pub fn masked(arities: bool, numbers: bool, regular: bool) -> picks::Mask
+pub fn masked(arities: bool, numbers: bool, regular: bool) -> Mask
     ensures { result ≡ masked arities numbers regular }
 {
-    picks::Mask {
+    Mask {
         arities,
         numbers,
         regular,

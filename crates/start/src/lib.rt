@@ -2,53 +2,37 @@
 
 #![tactic(auto)]
 
-ghost use Rattle.std.specs.Prelude.{◌<◌, ◌≤◌, take};
-ghost use Rattle.steps.specs.Steps.{masks, mesh, room};
+ghost use Rattle.std.specs.Prelude.{◌<◌, ◌∷◌, length};
+ghost use Rattle.steps.specs.Steps.{masks};
+ghost use Rattle.chain.specs.Lent.{shown, held, space, AreKept};
 ghost use Rattle.chain.specs.Trail.{trail};
 ghost use Rattle.chain.specs.Chained.{Chained};
 
 use chain::{Ran, Row};
-use engine::Answer;
+use mesh::{Mesh, MeshMut};
 use picks::Mask;
 use steps::Step;
 
-// One step or more: the first reads the input and writes the work mesh a.
+// A step and the rest: the first reads the input and writes the work mesh a.
 pub fn start(
-    steps: [Step; 16],
-    n: usize,
-    mask: Mask,
+    s: Step,
+    rest: &[Step],
     rows: [Row; 16],
+    mask: Mask,
     arities: &[u32],
     numbers: &[u32],
-    io: &[u32],
-    ic: &[u32],
-    ip: &[f32],
-    ao: &mut [u32],
-    ac: &mut [u32],
-    ap: &mut [f32],
-    bo: &mut [u32],
-    bc: &mut [u32],
-    bp: &mut [f32],
-    xo: &mut [u32],
-    xc: &mut [u32],
-    xp: &mut [f32],
+    input: Mesh<'_>,
+    a: &mut MeshMut<'_>,
+    b: &mut MeshMut<'_>,
+    out: &mut MeshMut<'_>,
 ) -> Ran
-    requires { (0 < n) × (n ≤ 16) }
-    ensures { Chained (trail (masks mask arities.now numbers.now) (take n steps) 1 (mesh io.now ic.now ip.now) (room ao.old ac.old ap.old) (room bo.old bc.old bp.old) (room xo.old xc.old xp.old)) 0 rows result xo.old xc.old xp.old xo.new xc.new xp.new }
+    requires { length rest.now < 16 }
+    ensures chained { Chained (trail (masks mask arities.now numbers.now) (s ∷ rest.now) 1 (shown input.entry) (space a.old) (space b.old) (space out.old)) 0 rows result (held out.old) (held out.new) }
+    ensures kept { AreKept a.old b.old out.old a.new b.new out.new }
 {
-    let s = steps[0];
-    if n == 1 {
-        let made = steps::apply(s, mask, arities, numbers, io, ic, ip, xo, xc, xp);
-        return chain::finish(made, s, 0, rows);
-    }
-    let made = steps::apply(s, mask, arities, numbers, io, ic, ip, ao, ac, ap);
-    let ran = chain::finish(made, s, 0, rows);
-    let Answer::Done(c) = made else {
-        return ran;
+    let Some((next, rest)) = rest.split_first() else {
+        return chain::step(s, 0, rows, mask, arities, numbers, input, out);
     };
-    let e = chain::extent_of(c, ao);
-    let more = ran.rows;
-    chain::chain(
-        steps, n, 1, mask, e, more, arities, numbers, ao, ac, ap, bo, bc, bp, xo, xc, xp,
-    )
+    let ran = chain::step(s, 0, rows, mask, arities, numbers, input, a);
+    chain::chain(ran, *next, rest, mask, arities, numbers, a, b, out)
 }

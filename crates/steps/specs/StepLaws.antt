@@ -1,14 +1,15 @@
 -- What is known of a step that is done: its result fits the room and has three coordinates a position. Assumes nothing.
-use Rattle.std.specs.Prelude.{◌≡◌, List, ℕ, ◌+◌, ◌*◌, ◌/◌, Float, true}
+use Rattle.std.specs.Prelude.{Ok, Err}
+use Rattle.std.specs.Prelude.{◌≡◌, List, ℕ, ◌*◌, ◌/◌, Float, true}
 use Rattle.std.proofs.Math.Path.{refl, ap}
 use Rattle.std.proofs.Common.{sym, ◌∙◌, arith}
 use Rattle.std.proofs.Math.ListN.{length}
-use Rattle.mesh.specs.Tests.{Test, verdict, and_then, both-good, size_tests, face_tests}
-use Rattle.mesh.specs.declared.Verdict.{Verdict}
-use Rattle.mesh.specs.declared.Verdict.TheVariants.{Good, Bad}
+use Rattle.mesh.specs.Tests.{Test, verdict, both-good, size_tests, face_tests}
+use Rattle.mesh.specs.Verdict.{Verdict}
+use Rattle.mesh.specs.Verdict.{Good}
 use Rattle.picks.specs.declared.Mask.{Mask}
 use Rattle.rule.specs.Flat.{flat}
-use Rattle.engine.specs.Result.{Outcome, refused, result, outcome_of, outcome, table, asked, room_tests, finite_tests}
+use Rattle.engine.specs.Result.{result, outcome_of, outcome, table, asked, room_tests, finite_tests}
 use Rattle.engine.specs.ResultLaws.{by-groups, Fits, room-good}
 use Rattle.engine.specs.Plan.{plan_coords}
 use Rattle.engine.specs.Laws.{coords-by}
@@ -27,8 +28,8 @@ pub record Written (fs : List (List ℕ)) (xs : List Float) (lo lc lx : ℕ) : T
 
 -- a result was not refused
 judge : (v : Verdict) (fs gs : List (List ℕ)) (xs ys : List Float) → outcome_of v fs xs ≡ result gs ys → (v ≡ Good) × ((fs ≡ gs) × (xs ≡ ys))
-judge Good fs gs xs ys e = (refl, (cc, cc))
-judge (Bad n p) fs gs xs ys e = absurd (let z : ◌≡◌ {A = ℕ} 0 1 = cc in omega arith)
+judge (Ok _) fs gs xs ys e = (refl, (cc, cc))
+judge (Err r) fs gs xs ys e = absurd (let z : ◌≡◌ {A = ℕ} 0 1 = cc in omega arith)
 
 fitted : (a : Asks) (o k : List ℕ) (x : List Float) (own : List Test) (fs : List (List ℕ)) (xs : List Float) (lo lc lx : ℕ) →
     verdict (table a o k x own fs xs lo lc lx) ≡ Good → Fits (length fs) (length (flat fs)) (length xs) lo lc lx

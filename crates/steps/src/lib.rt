@@ -2,26 +2,27 @@
 
 #![tactic(auto)]
 
-ghost use Rattle.std.specs.Prelude.{◌≡◌, length};
-ghost use Rattle.engine.specs.Result.{Came};
+ghost use Rattle.std.specs.Prelude.{◌≡◌};
+ghost use Rattle.mesh.specs.Lent.{of_mesh};
+ghost use Rattle.engine.specs.Result.{Fills};
 ghost use Rattle.steps.specs.Steps.{code_of, step_outcome};
 
-use engine::Answer;
-use operators::Number;
+use engine::{Counts, Stop};
+use mesh::{Mesh, MeshMut};
 use picks::Mask;
 
 #[derive(Clone, Copy)]
 pub enum Step {
-    Ambo(Number),
-    Chamfer(Number),
+    Ambo(Option<f32>),
+    Chamfer(Option<f32>),
     Dual,
-    Gyro(Number, Number),
-    Kis(Number),
-    Propellor(Number),
-    Quinto(Number),
+    Gyro(Option<f32>, Option<f32>),
+    Kis(Option<f32>),
+    Propellor(Option<f32>),
+    Quinto(Option<f32>),
     Reflect,
     Reverse,
-    Whirl(Number, Number),
+    Whirl(Option<f32>, Option<f32>),
     Triangulate,
 }
 
@@ -49,28 +50,22 @@ pub fn apply(
     mask: Mask,
     arities: &[u32],
     numbers: &[u32],
-    offsets: &[u32],
-    corners: &[u32],
-    coords: &[f32],
-    oo: &mut [u32],
-    oc: &mut [u32],
-    ox: &mut [f32],
-) -> Answer
-    ensures { Came (step_outcome s mask arities.now numbers.now offsets.now corners.now coords.now (length oo.old) (length oc.old) (length ox.old)) oo.old oc.old ox.old result oo.new oc.new ox.new }
+    mesh: Mesh<'_>,
+    out: &mut MeshMut<'_>,
+) -> Result<Counts, Stop>
+    ensures { Fills (of_mesh (step_outcome s mask arities.now numbers.now) mesh.entry) out.old result out.new }
 {
     match s {
-        Step::Ambo(t) => operators::ambo(offsets, corners, coords, t, oo, oc, ox),
-        Step::Chamfer(t) => operators::chamfer(offsets, corners, coords, t, oo, oc, ox),
-        Step::Dual => operators::dual(offsets, corners, coords, oo, oc, ox),
-        Step::Gyro(t, h) => operators::gyro(offsets, corners, coords, t, h, oo, oc, ox),
-        Step::Kis(h) => operators::kis(
-            offsets, corners, coords, h, mask, arities, numbers, oo, oc, ox,
-        ),
-        Step::Propellor(t) => operators::propellor(offsets, corners, coords, t, oo, oc, ox),
-        Step::Quinto(h) => operators::quinto(offsets, corners, coords, h, oo, oc, ox),
-        Step::Reflect => operators::reflect(offsets, corners, coords, oo, oc, ox),
-        Step::Reverse => operators::reverse(offsets, corners, coords, oo, oc, ox),
-        Step::Whirl(t, h) => operators::whirl(offsets, corners, coords, t, h, oo, oc, ox),
-        Step::Triangulate => operators::triangulate(offsets, corners, coords, true, oo, oc, ox),
+        Step::Ambo(t) => operators::ambo(mesh, t, out),
+        Step::Chamfer(t) => operators::chamfer(mesh, t, out),
+        Step::Dual => operators::dual(mesh, out),
+        Step::Gyro(t, h) => operators::gyro(mesh, t, h, out),
+        Step::Kis(h) => operators::kis(mesh, h, mask, arities, numbers, out),
+        Step::Propellor(t) => operators::propellor(mesh, t, out),
+        Step::Quinto(h) => operators::quinto(mesh, h, out),
+        Step::Reflect => operators::reflect(mesh, out),
+        Step::Reverse => operators::reverse(mesh, out),
+        Step::Whirl(t, h) => operators::whirl(mesh, t, h, out),
+        Step::Triangulate => operators::triangulate(mesh, true, out),
     }
 }

@@ -1,5 +1,5 @@
 -- Laws of written texts: none, one after another, how many bytes; and of the digits of a number. Assumes nothing.
-use Rattle.std.specs.Prelude.{◌≡◌, refl, Bool, true, false, cond, List, [], ◌∷◌, ◌++◌, ℕ, zero, suc, ◌+◌, ◌-◌, ◌*◌, ◌/◌, ◌%◌, ◌^◌, ◌≤◌, ◌<◌, ltb, length, take, get_or, set}
+use Rattle.std.specs.Prelude.{◌≡◌, refl, Bool, true, false, cond, List, [], ◌∷◌, ◌++◌, ℕ, zero, suc, ◌+◌, ◌-◌, ◌*◌, ◌/◌, ◌%◌, ◌^◌, ◌≤◌, ◌<◌, ltb, length, take, get_or}
 use Rattle.std.proofs.Common.{sym, ap, ap₂, ◌∙◌, add-zero, pow-suc, mod-eq_of_lt, le_of_suc-le-suc, lt_of_not-le, add-one, arith, lt-ltb, le-ltb, length-append, take-suc}
 use Rattle.std.proofs.Math.Nat.{one-le-pow, pow-le-pow_right}
 use Rattle.std.proofs.lemmas.List.Edits.{sets}
@@ -33,12 +33,6 @@ pub put-more : (run : List ℕ) (i : ℕ) {at r r' : ℕ} {t t' t'' : List ℕ} 
 put-more run i h p q =
     let e : take (i + 1) run ≡ take i run ++ (get_or run i 0 ∷ []) = ap (λ (j : ℕ). take j run) (add-one i) ∙ take-suc run i 0 h in
     rw e (put_then p q)
-
--- past the end nothing is stored
-pub set_past : (l : List ℕ) (i a : ℕ) → length l ≤ i → l ≡ set l i a
-set_past [] i a h = refl
-set_past (x ∷ l) zero a h = absurd (omega arith)
-set_past (x ∷ l) (suc i) a h = ap (λ (t : List ℕ). x ∷ t) (set_past l i a (omega arith))
 
 -- two numbers spelled
 zero-spelled : decimal 0 ≡ 48 ∷ []

@@ -23,10 +23,8 @@ pub fn put_run(text: &mut [u8], at: usize, run: &[u8]) -> usize
     ensures { Put run.now at text.old result text.new }
 {
     let mut to = at;
-    let mut i = 0;
-    while i < run.len() {
-        to = put_byte(text, to, run[i]);
-        i += 1;
+    for b in run {
+        to = put_byte(text, to, *b);
     }
     to
 }
@@ -37,7 +35,7 @@ pub fn put_number(text: &mut [u8], at: usize, n: u64) -> usize
     ensures put { Put (decimal n) at text.old result text.new }
     ensures upper_bound { result ≤ at + 20 }
 {
-    let mut digits = [0u8; 20];
+    let mut digits = [0; 20];
     let k = io::decimal(n, &mut digits);
     put_run(text, at, &digits[..k])
 }

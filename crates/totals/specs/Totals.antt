@@ -1,8 +1,8 @@
 -- What a line of a report says of a mesh: X = V - E + F and H = (2 - X) / 2, whole numbers by their sign and size. Definitions only.
-use Rattle.std.specs.Prelude.{true, false, cond, List, ℕ, ◌+◌, ◌-◌, ◌/◌, get_or, ltb, leb, eqb}
+use Rattle.std.specs.Prelude.{true, false, cond, ℕ, ◌+◌, ◌-◌, ◌/◌, get_or, ltb, leb}
 use Rattle.engine.specs.declared.Counts.{Counts}
-use Rattle.engine.specs.declared.Answer.{Answer}
-use Rattle.engine.specs.declared.Answer.TheVariants.{Done}
+use Rattle.engine.specs.Answer.{Answer}
+use Rattle.engine.specs.Answer.{Done}
 use Rattle.chain.specs.declared.Row.{Row}
 use Rattle.chain.specs.declared.Ran.{Ran}
 use Rattle.totals.specs.declared.Whole.{Whole}

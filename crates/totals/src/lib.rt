@@ -6,7 +6,7 @@ ghost use Rattle.std.specs.Prelude.{◌≡◌};
 ghost use Rattle.totals.specs.Totals.{difference, half_of, euler_of, handles_of, answer_at};
 
 use chain::Ran;
-use engine::{Answer, Counts};
+use engine::{Counts, Stop};
 
 // A whole number by its sign and size; 0 has no sign.
 #[derive(Clone, Copy)]
@@ -19,16 +19,9 @@ pub struct Whole {
 fn take_away(a: u64, b: u64) -> Whole
     ensures { result ≡ difference a b }
 {
-    if b <= a {
-        Whole {
-            minus: false,
-            size: a - b,
-        }
-    } else {
-        Whole {
-            minus: true,
-            size: b - a,
-        }
+    Whole {
+        minus: a < b,
+        size: a.abs_diff(b),
     }
 }
 
@@ -36,16 +29,10 @@ fn take_away(a: u64, b: u64) -> Whole
 fn half(w: Whole) -> Whole
     ensures { result ≡ half_of w }
 {
-    if w.size < 2 {
-        Whole {
-            minus: false,
-            size: 0,
-        }
-    } else {
-        Whole {
-            minus: w.minus,
-            size: w.size / 2,
-        }
+    let size = w.size / 2;
+    Whole {
+        minus: w.minus && 0 < size,
+        size,
     }
 }
 
@@ -53,29 +40,27 @@ fn half(w: Whole) -> Whole
 pub fn euler(c: Counts) -> Whole
     ensures { result ≡ euler_of c }
 {
-    take_away((c.v as u64) + (c.f as u64), c.e as u64)
+    take_away(u64::from(c.v) + u64::from(c.f), u64::from(c.e))
 }
 
 // H, the number of handles, is (2 - X) / 2, rounded toward zero.
 pub fn handles(c: Counts) -> Whole
     ensures { result ≡ handles_of c }
 {
-    half(take_away((c.e as u64) + 2, (c.v as u64) + (c.f as u64)))
+    half(take_away(u64::from(c.e) + 2, u64::from(c.v) + u64::from(c.f)))
 }
 
 // The answer of step k + 1 of a recipe that was run.
-pub fn answer_at(ran: Ran, k: usize) -> Answer
+#[tactic(auto, unfolding(crate::specs::Totals::answer_at))]
+pub fn answer_at(ran: Ran, k: usize) -> Result<Counts, Stop>
     ensures { result ≡ answer_at ran k }
 {
-    if k < ran.done {
-        if k < 16 {
-            let row = ran.rows[k];
-            return Answer::Done(Counts {
-                v: row.v,
-                e: row.e,
-                f: row.f,
-            });
-        }
+    match ran.rows.get(k) {
+        Some(row) if k < ran.done => Ok(Counts {
+            v: row.v,
+            e: row.e,
+            f: row.f,
+        }),
+        _ => ran.answer,
     }
-    ran.answer
 }

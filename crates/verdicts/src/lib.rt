@@ -5,30 +5,24 @@
 ghost use Rattle.std.specs.Prelude.{◌≡◌};
 ghost use Rattle.mesh.specs.Tests.{number_of, place_of};
 
-use mesh::Verdict;
+use mesh::Refusal;
 
-// The number of a good verdict.
+// The number where nothing is refused.
 const NO_NUMBER: u32 = 0;
 
-// The place of a good verdict.
+// The place where nothing is refused.
 const NO_PLACE: u32 = 0;
 
 // The number that a verdict stands for: 0 where nothing is refused.
-pub fn number_of(v: Verdict) -> u32
+pub fn number_of(v: Result<(), Refusal>) -> u32
     ensures { result ≡ number_of v }
 {
-    match v {
-        Verdict::Good => NO_NUMBER,
-        Verdict::Bad { number, place: _ } => number,
-    }
+    v.err().map_or(NO_NUMBER, |r| r.number)
 }
 
 // The place of a verdict: 0 where nothing is refused.
-pub fn place_of(v: Verdict) -> u32
+pub fn place_of(v: Result<(), Refusal>) -> u32
     ensures { result ≡ place_of v }
 {
-    match v {
-        Verdict::Good => NO_PLACE,
-        Verdict::Bad { number: _, place } => place,
-    }
+    v.err().map_or(NO_PLACE, |r| r.place)
 }

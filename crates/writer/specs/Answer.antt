@@ -1,12 +1,13 @@
 -- What a call of the writer comes to. Definitions only.
+use Rattle.std.specs.Prelude.{Ok, Err}
 use Rattle.std.specs.Prelude.{◌≡◌, cond, List, ℕ, ◌/◌, length, ltb, Float}
 use Rattle.slices.specs.First.{first, any}
 use Rattle.slices.specs.Lists.{over}
 use Rattle.mesh.specs.Mesh.{faces}
 use Rattle.mesh.specs.Tests.{wrong_shape}
 use Rattle.steps.specs.declared.Step.{Step}
-use Rattle.writer.specs.declared.Written.{Written}
-use Rattle.writer.specs.declared.Written.TheVariants.{Done, Refused}
+use Rattle.writer.specs.Written.{Written}
+use Rattle.writer.specs.Written.{Done, Refused}
 use Rattle.writer.specs.File.{file_of, given}
 
 -- 1: offsets or coordinates of wrong shape; 2: over a limit of the file, 3 steps, 0 faces, 1 corners, 2 positions; 13: the bytes do not fit
@@ -20,8 +21,8 @@ written_of l n o k x room =
     (cond (ltb room (length (file_of (given l n o k x)))) (Refused 13 0) (Done (length (file_of (given l n o k x)))))))))
 
 abbrev pub bytes_after : Written → List ℕ → List ℕ → List ℕ
-bytes_after (Done size) new old = over new old
-bytes_after (Refused number place) new old = old
+bytes_after (Ok size) new old = over new old
+bytes_after (Err r) new old = old
 
 -- a call: its answer, and the lent bytes before and after it
 pub record Wrote (l : List Step) (n : ℕ) (o k : List ℕ) (x : List Float) (out : List ℕ) (r : Written) (out' : List ℕ) : Type 0 where

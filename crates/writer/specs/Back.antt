@@ -11,11 +11,11 @@ use borrow.Author.Tests.{eq-eqb}
 use Rattle.rule.specs.Flat.{flat}
 use Rattle.steps.specs.declared.Step.{Step}
 use Rattle.words.specs.Words.{word_at, whole_at}
-use Rattle.parts.specs.declared.Part.{Part}
-use Rattle.parts.specs.declared.Part.TheVariants.{Has, Stops}
+use Rattle.parts.specs.Part.{Part}
+use Rattle.parts.specs.Part.{Has, Stops}
 use Rattle.parts.specs.Parts.{count_at, step_says, whole_says, items, section, faces}
-use Rattle.panel.specs.declared.Filed.{Filed}
-use Rattle.panel.specs.declared.Filed.TheVariants.{Fine, Refused}
+use Rattle.panel.specs.Filed.{Filed}
+use Rattle.panel.specs.Filed.{Fine, Refused}
 use Rattle.panel.specs.Format.{settle, positions_at, faces_at, end_at, ending, checked, run, float_at, step_at, faces_from, Contents, contents, Reading, refused, holds, reading_as, reading}
 use Rattle.writer.specs.File.{flat_map, step_words, float_words, face_words, file_words, bytes_all, file_of}
 use Rattle.writer.specs.Bytes.{length-flat_map, length-bytes, word-at, whole_in}

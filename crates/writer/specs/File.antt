@@ -3,8 +3,8 @@ use Rattle.std.specs.Prelude.{List, [], ◌∷◌, ◌++◌, ℕ, ◌+◌, ◌*�
 use Rattle.std.specs.Float.Ieee.{to_bits}
 use Rattle.std.specs.Float.{binary32}
 use Rattle.mesh.specs.Mesh as Mesh
-use Rattle.operators.specs.declared.Number.{Number}
-use Rattle.operators.specs.declared.Number.TheVariants.{Absent, Given}
+use Rattle.operators.specs.Number.{Number}
+use Rattle.std.specs.Prelude.{Some, None}
 use Rattle.steps.specs.declared.Step.{Step}
 use Rattle.steps.specs.declared.Step.TheVariants.{Ambo, Chamfer, Dual, Gyro, Kis, Propellor, Quinto, Reflect, Reverse, Whirl, Triangulate}
 use Rattle.steps.specs.Steps.{code_of}
@@ -21,37 +21,37 @@ flat_map h (x ∷ xs) = h x ++ flat_map h xs
 abbrev pub ratio_in : Step → Number
 ratio_in (Ambo t) = t
 ratio_in (Chamfer t) = t
-ratio_in Dual = Absent
+ratio_in Dual = None
 ratio_in (Gyro t h) = t
-ratio_in (Kis h) = Absent
+ratio_in (Kis h) = None
 ratio_in (Propellor t) = t
-ratio_in (Quinto h) = Absent
-ratio_in Reflect = Absent
-ratio_in Reverse = Absent
+ratio_in (Quinto h) = None
+ratio_in Reflect = None
+ratio_in Reverse = None
 ratio_in (Whirl t h) = t
-ratio_in Triangulate = Absent
+ratio_in Triangulate = None
 
 abbrev pub height_in : Step → Number
-height_in (Ambo t) = Absent
-height_in (Chamfer t) = Absent
-height_in Dual = Absent
+height_in (Ambo t) = None
+height_in (Chamfer t) = None
+height_in Dual = None
 height_in (Gyro t h) = h
 height_in (Kis h) = h
-height_in (Propellor t) = Absent
+height_in (Propellor t) = None
 height_in (Quinto h) = h
-height_in Reflect = Absent
-height_in Reverse = Absent
+height_in Reflect = None
+height_in Reverse = None
 height_in (Whirl t h) = h
-height_in Triangulate = Absent
+height_in Triangulate = None
 
 abbrev pub flag_of : Number → ℕ
-flag_of Absent = 0
-flag_of (Given x) = 1
+flag_of None = 0
+flag_of (Some x) = 1
 
 -- every NaN has the pattern 0x7FC00000
 abbrev pub bits_in : Number → ℕ
-bits_in Absent = 0
-bits_in (Given x) = to_bits binary32 x
+bits_in None = 0
+bits_in (Some x) = to_bits binary32 x
 
 unfoldable pub step_words : Step → List ℕ
 step_words s = code_of s ∷ (flag_of (ratio_in s) + 2 * flag_of (height_in s)) ∷ bits_in (ratio_in s) ∷ bits_in (height_in s) ∷ []

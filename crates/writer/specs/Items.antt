@@ -5,14 +5,14 @@ use Rattle.std.specs.Float.Ieee.{fits, of_bits, to_bits}
 use Rattle.std.specs.Float.{binary32}
 use Rattle.std.specs.Float.Ieee.Bits.{of_bits-to_bits}
 use Rattle.rule.specs.Flat.{flat}
-use Rattle.operators.specs.declared.Number.{Number}
-use Rattle.operators.specs.declared.Number.TheVariants.{Absent, Given}
+use Rattle.operators.specs.Number.{Number}
+use Rattle.std.specs.Prelude.{Some, None}
 use Rattle.steps.specs.declared.Step.{Step}
 use Rattle.steps.specs.declared.Step.TheVariants.{Ambo, Chamfer, Dual, Gyro, Kis, Propellor, Quinto, Reflect, Reverse, Whirl, Triangulate}
 use Rattle.steps.specs.Steps.{code_of}
 use Rattle.words.specs.Words.{word_at, whole_at}
-use Rattle.parts.specs.declared.Part.{Part}
-use Rattle.parts.specs.declared.Part.TheVariants.{Has, Stops}
+use Rattle.parts.specs.Part.{Part}
+use Rattle.parts.specs.Part.{Has, Stops}
 use Rattle.parts.specs.StepWords.{one_of, takes_ratio, takes_height, good_step, step_of, step_with}
 use Rattle.parts.specs.Parts.{and_then, count_at, step_says, whole_says, items, section, faces}
 use Rattle.panel.specs.Format.{run, float_at, step_at, faces_from}
@@ -58,8 +58,8 @@ run-back {A} P g h k w n f (x ∷ l) pre post a e =
 -- ---- a step
 
 abbrev pub NumberFits : Number → Type 0
-NumberFits Absent = Unit
-NumberFits (Given x) = T (fits binary32 x)
+NumberFits None = Unit
+NumberFits (Some x) = T (fits binary32 x)
 
 abbrev pub StepFits : Step → Type 0
 StepFits s = NumberFits (ratio_in s) × NumberFits (height_in s)
@@ -69,27 +69,27 @@ flags s = flag_of (ratio_in s) + 2 * flag_of (height_in s)
 
 good-back : (s : Step) → good_step (code_of s) (flags s) (bits_in (ratio_in s)) (bits_in (height_in s)) ≡ true
 unfolding good_step takes_ratio takes_height one_of
-good-back (Ambo Absent) = refl
-good-back (Ambo (Given x)) = refl
-good-back (Chamfer Absent) = refl
-good-back (Chamfer (Given x)) = refl
+good-back (Ambo None) = refl
+good-back (Ambo (Some x)) = refl
+good-back (Chamfer None) = refl
+good-back (Chamfer (Some x)) = refl
 good-back Dual = refl
-good-back (Gyro Absent Absent) = refl
-good-back (Gyro Absent (Given y)) = refl
-good-back (Gyro (Given x) Absent) = refl
-good-back (Gyro (Given x) (Given y)) = refl
-good-back (Kis Absent) = refl
-good-back (Kis (Given y)) = refl
-good-back (Propellor Absent) = refl
-good-back (Propellor (Given x)) = refl
-good-back (Quinto Absent) = refl
-good-back (Quinto (Given y)) = refl
+good-back (Gyro None None) = refl
+good-back (Gyro None (Some y)) = refl
+good-back (Gyro (Some x) None) = refl
+good-back (Gyro (Some x) (Some y)) = refl
+good-back (Kis None) = refl
+good-back (Kis (Some y)) = refl
+good-back (Propellor None) = refl
+good-back (Propellor (Some x)) = refl
+good-back (Quinto None) = refl
+good-back (Quinto (Some y)) = refl
 good-back Reflect = refl
 good-back Reverse = refl
-good-back (Whirl Absent Absent) = refl
-good-back (Whirl Absent (Given y)) = refl
-good-back (Whirl (Given x) Absent) = refl
-good-back (Whirl (Given x) (Given y)) = refl
+good-back (Whirl None None) = refl
+good-back (Whirl None (Some y)) = refl
+good-back (Whirl (Some x) None) = refl
+good-back (Whirl (Some x) (Some y)) = refl
 good-back Triangulate = refl
 
 float_back : (x : Float) → T (fits binary32 x) → of_bits binary32 (to_bits binary32 x) ≡ x
@@ -97,27 +97,27 @@ float_back x h = of_bits-to_bits binary32 x h
 
 step_back : (s : Step) → StepFits s → step_with (code_of s) (flags s) (bits_in (ratio_in s)) (bits_in (height_in s)) ≡ s
 unfolding step_with step_of
-step_back (Ambo Absent) f = refl
-step_back (Ambo (Given x)) f = ap (λ (y : Float). Ambo (Given y)) (float_back x f.0)
-step_back (Chamfer Absent) f = refl
-step_back (Chamfer (Given x)) f = ap (λ (y : Float). Chamfer (Given y)) (float_back x f.0)
+step_back (Ambo None) f = refl
+step_back (Ambo (Some x)) f = ap (λ (y : Float). Ambo (Some y)) (float_back x f.0)
+step_back (Chamfer None) f = refl
+step_back (Chamfer (Some x)) f = ap (λ (y : Float). Chamfer (Some y)) (float_back x f.0)
 step_back Dual f = refl
-step_back (Gyro Absent Absent) f = refl
-step_back (Gyro Absent (Given y)) f = ap (λ (z : Float). Gyro Absent (Given z)) (float_back y f.1)
-step_back (Gyro (Given x) Absent) f = ap (λ (z : Float). Gyro (Given z) Absent) (float_back x f.0)
-step_back (Gyro (Given x) (Given y)) f = ap₂ (λ (z w : Float). Gyro (Given z) (Given w)) (float_back x f.0) (float_back y f.1)
-step_back (Kis Absent) f = refl
-step_back (Kis (Given y)) f = ap (λ (z : Float). Kis (Given z)) (float_back y f.1)
-step_back (Propellor Absent) f = refl
-step_back (Propellor (Given x)) f = ap (λ (z : Float). Propellor (Given z)) (float_back x f.0)
-step_back (Quinto Absent) f = refl
-step_back (Quinto (Given y)) f = ap (λ (z : Float). Quinto (Given z)) (float_back y f.1)
+step_back (Gyro None None) f = refl
+step_back (Gyro None (Some y)) f = ap (λ (z : Float). Gyro None (Some z)) (float_back y f.1)
+step_back (Gyro (Some x) None) f = ap (λ (z : Float). Gyro (Some z) None) (float_back x f.0)
+step_back (Gyro (Some x) (Some y)) f = ap₂ (λ (z w : Float). Gyro (Some z) (Some w)) (float_back x f.0) (float_back y f.1)
+step_back (Kis None) f = refl
+step_back (Kis (Some y)) f = ap (λ (z : Float). Kis (Some z)) (float_back y f.1)
+step_back (Propellor None) f = refl
+step_back (Propellor (Some x)) f = ap (λ (z : Float). Propellor (Some z)) (float_back x f.0)
+step_back (Quinto None) f = refl
+step_back (Quinto (Some y)) f = ap (λ (z : Float). Quinto (Some z)) (float_back y f.1)
 step_back Reflect f = refl
 step_back Reverse f = refl
-step_back (Whirl Absent Absent) f = refl
-step_back (Whirl Absent (Given y)) f = ap (λ (z : Float). Whirl Absent (Given z)) (float_back y f.1)
-step_back (Whirl (Given x) Absent) f = ap (λ (z : Float). Whirl (Given z) Absent) (float_back x f.0)
-step_back (Whirl (Given x) (Given y)) f = ap₂ (λ (z w : Float). Whirl (Given z) (Given w)) (float_back x f.0) (float_back y f.1)
+step_back (Whirl None None) f = refl
+step_back (Whirl None (Some y)) f = ap (λ (z : Float). Whirl None (Some z)) (float_back y f.1)
+step_back (Whirl (Some x) None) f = ap (λ (z : Float). Whirl (Some z) None) (float_back x f.0)
+step_back (Whirl (Some x) (Some y)) f = ap₂ (λ (z w : Float). Whirl (Some z) (Some w)) (float_back x f.0) (float_back y f.1)
 step_back Triangulate f = refl
 
 pub length-step : (s : Step) → length (step_words s) ≡ 4

@@ -1,6 +1,7 @@
-pub mod File
-pub mod Bytes
-pub mod Items
-pub mod Back
 pub mod Answer
+pub mod Back
+pub mod Bytes
+pub mod File
+pub mod Items
 pub mod Puts
+pub mod Written

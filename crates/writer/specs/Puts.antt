@@ -1,4 +1,5 @@
 -- What the writer's loops have stored after so many turns, and what it knows when it begins. Assumes nothing.
+use Rattle.std.specs.Prelude.{Ok, Err}
 use Rattle.std.specs.Prelude.{◌≡◌, refl, Bool, true, false, cond, List, [], ◌∷◌, ◌++◌, ℕ, zero, suc, ◌+◌, ◌-◌, ◌*◌, ◌/◌, ◌<◌, ◌≤◌, length, get_or, take, drop, ltb, eqb, Float}
 use Rattle.std.proofs.Common.{sym, ◌∙◌, ap, ap₂, subst, append_assoc, append-nil, add-one, arith, length-append, length-drop, take-suc, length-take-le, ltb-false, ltb-true, lt-ltb, le-ltb, eq-eqb, ne_eqb}
 use Rattle.std.proofs.lemmas.List.Edits.{sets}
@@ -11,14 +12,14 @@ use Rattle.mesh.specs.Mesh.{start, end, arity}
 use Rattle.mesh.specs.Mesh as Mesh
 use Rattle.mesh.specs.Tests.{verdict, wrong_shape, too_many, size_tests}
 use Rattle.mesh.specs.Shape.{Shaped, passed-shape, end-le, length_run}
-use Rattle.mesh.specs.declared.Verdict.{Verdict}
-use Rattle.mesh.specs.declared.Verdict.TheVariants.{Good, Bad}
+use Rattle.mesh.specs.Verdict.{Verdict}
+use Rattle.mesh.specs.Verdict.{Good, Bad}
 use Rattle.steps.specs.declared.Step.{Step}
 use Rattle.steps.specs.Steps.{code_of}
-use Rattle.operators.specs.declared.Number.{Number}
+use Rattle.operators.specs.Number.{Number}
 use Rattle.words.specs.Words.{bytes_of}
-use Rattle.writer.specs.declared.Written.{Written}
-use Rattle.writer.specs.declared.Written.TheVariants.{Done, Refused}
+use Rattle.writer.specs.Written.{Written}
+use Rattle.writer.specs.Written.{Done, Refused}
 use Rattle.writer.specs.File.{flat_map, ratio_in, height_in, flag_of, bits_in, step_words, float_words, face_words, file_words, bytes_all, file_of, given}
 use Rattle.writer.specs.Bytes.{flat_map-append, flat_map-one, length-flat_map, length-bytes, put-after, put_one}
 use Rattle.writer.specs.Items.{length-step, length_float}
@@ -49,7 +50,7 @@ pub length-one : (y : ℕ) → length (one_word y) ≡ 1
 unfolding one_word
 length-one y = refl
 
-one_each : (l : List ℕ) → flat_map one_word l ≡ l
+pub one_each : (l : List ℕ) → flat_map one_word l ≡ l
 unfolding flat_map one_word
 one_each [] = refl
 one_each (y ∷ l) = ap (λ (t : List ℕ). y ∷ t) (one_each l)
@@ -208,8 +209,8 @@ limits_of n lo lk lx room =
 
 -- number 1 of a mesh's own table comes first; its number 2 is left to the file's limits
 abbrev pub shape_first : Verdict → Written → Written
-shape_first Good then = then
-shape_first (Bad number place) then = cond (eqb number 1) (Refused 1 place) then
+shape_first (Ok _) then = then
+shape_first (Err r) then = cond (eqb r.number 1) (Refused 1 r.place) then
 
 pub shape-yes : (v : Verdict) (w : Written) {n p : ℕ} → v ≡ Bad n p → n ≡ 1 → Refused 1 p ≡ shape_first v w
 shape-yes v w {n} {p} e h = rw (e, eq-eqb n 1 h) refl
@@ -227,8 +228,8 @@ pub record Filing (o k : List ℕ) (n lx room : ℕ) : Type 0 where
   pub fits : size_of n (length o) (length k) lx ≤ room
 
 abbrev FilingAs : List ℕ → List ℕ → ℕ → ℕ → ℕ → Written → Type 0
-FilingAs o k n lx room (Done size) = Filing o k n lx room
-FilingAs o k n lx room (Refused number place) = Unit
+FilingAs o k n lx room (Ok size) = Filing o k n lx room
+FilingAs o k n lx room (Err r) = Unit
 
 limits-known : (o k : List ℕ) (n lx room : ℕ) → Shaped o (length k) → FilingAs o k n lx room (limits_of n (length o) (length k) lx room)
 limits-known o k n lx room s = go (ltb 16 n) (ltb 401 (length o)) (ltb 1200 (length k)) (ltb 400 (lx / 3)) (ltb room (size_of n (length o) (length k) lx)) refl refl refl refl refl
@@ -255,7 +256,7 @@ shape_is o n m w = go (any (wrong_shape o n m) 2) (any (too_many (Mesh.faces o) 
     go false false = refl
 
 limits-are :
-    (l : List Step) (n : ℕ) (o k : List ℕ) (x : List Float) (room : ℕ) → length l ≡ 16 → Shaped o (length k) →
+    (l : List Step) (n : ℕ) (o k : List ℕ) (x : List Float) (room : ℕ) → (n ≤ 16 → n ≤ length l) → Shaped o (length k) →
     limits_of n (length o) (length k) (length x) room ≡
     cond (ltb 16 n) (Refused 2 3)
     (cond (ltb 400 (Mesh.faces o)) (Refused 2 0)
@@ -273,14 +274,14 @@ limits-are l n o k x room h s = go (ltb 16 n) refl
         cond a (Refused 2 3) (cond (ltb 400 (Mesh.faces o)) (Refused 2 0) (cond (ltb 1200 (length k)) (Refused 2 1) (cond (ltb 400 (length x / 3)) (Refused 2 2) (cond (ltb room (length (file_of (given l n o k x)))) (Refused 13 0) (Done (length (file_of (given l n o k x))))))))
     go true e = refl
     go false e =
-        let c : n ≤ length l = let w = ltb-false 16 n e in omega arith in
+        let c : n ≤ length l = h (ltb-false 16 n e) in
         rw (many (ltb 401 (length o)) refl, length-file l n o k x c s) refl
 
 shaped-or : (o : List ℕ) (n m : ℕ) → any (wrong_shape o n m) 2 ≡ false → Shaped o n
 shaped-or o n m e = passed-shape o n m (ltb-false (first (wrong_shape o n m) 2) 2 e)
 
 pub written_is :
-    (l : List Step) (n : ℕ) (o k : List ℕ) (x : List Float) (room : ℕ) (v : Verdict) (w r : Written) → length l ≡ 16 →
+    (l : List Step) (n : ℕ) (o k : List ℕ) (x : List Float) (room : ℕ) (v : Verdict) (w r : Written) → (n ≤ 16 → n ≤ length l) →
     v ≡ verdict (size_tests o (length k) (length x)) → w ≡ limits_of n (length o) (length k) (length x) room → r ≡ shape_first v w → r ≡ written_of l n o k x room
 unfolding written_of
 written_is l n o k x room v w r h e p q =
@@ -311,9 +312,9 @@ pub wrote-stop :
 wrote-stop l n o k x out r e h = record { answer = e; bytes = ap (λ (y : Written). bytes_after y (file_of (given l n o k x)) out) (sym h) }
 
 pub wrote-done :
-    (l : List Step) (n : ℕ) (o k : List ℕ) (x : List Float) (out out' : List ℕ) (r : Written) {z : ℕ} → length l ≡ 16 → r ≡ written_of l n o k x (length out) → r ≡ Done z →
+    (l : List Step) (n : ℕ) (o k : List ℕ) (x : List Float) (out out' : List ℕ) (r : Written) {z : ℕ} → (n ≤ 16 → n ≤ length l) → r ≡ written_of l n o k x (length out) → r ≡ Done z →
     Filing o k n (length x) (length out) → out' ≡ sets out 0 (file_of (given l n o k x)) → Wrote l n o k x out r out'
 wrote-done l n o k x out out' r h e d g p =
-    let c : n ≤ length l = omega (arith, g.few) in
+    let c : n ≤ length l = h g.few in
     let f : length (file_of (given l n o k x)) ≤ length out = omega (arith, length-file l n o k x c g.shaped, g.fits) in
     record { answer = e; bytes = p ∙ sets_over out (file_of (given l n o k x)) f ∙ ap (λ (y : Written). bytes_after y (file_of (given l n o k x)) out) (sym d) }

@@ -2,84 +2,67 @@
 
 #![tactic(auto)]
 
-ghost use Rattle.std.specs.Prelude.{◌≡◌, ◌+◌, ◌*◌, ◌<◌, ◌≤◌, [], ◌∷◌, length, take};
+ghost use Rattle.std.specs.Prelude.{◌≡◌, ℕ, ◌+◌, ◌*◌, ◌≤◌, List, [], ◌∷◌, length};
 ghost use Rattle.std.proofs.lemmas.List.Edits.{sets};
 ghost use Rattle.mesh.specs.Mesh.{faces, faces_of};
 ghost use Rattle.mesh.specs.Shape.{Shaped};
-ghost use Rattle.writer.specs.File.{flat_map, ratio_in, height_in, flag_of, bits_in, step_words, float_words, face_words, bytes_all, file_of, given};
+ghost use Rattle.writer.specs.File.{flat_map, ratio_in, height_in, flag_of, bits_in, step_words, face_words, bytes_all, file_of, given};
 ghost use Rattle.writer.specs.Answer.{Wrote};
 ghost use Rattle.writer.specs.Puts.{limits_of, shape_first, Filing};
 
-use mesh::Verdict;
-use operators::Number;
+use mesh::{Mesh, Reason, Refusal};
 use steps::Step;
 
-// What writing a file comes to: how many bytes, or a refusal.
-#[derive(Clone, Copy)]
-pub enum Written {
-    Done(u32),
-    Refused { number: u32, place: u32 },
-}
-
-fn ratio_in(s: Step) -> Number
+fn ratio_in(s: Step) -> Option<f32>
     ensures { result ≡ ratio_in s }
 {
     match s {
-        Step::Ambo(t) => t,
-        Step::Chamfer(t) => t,
-        Step::Dual => Number::Absent,
-        Step::Gyro(t, _) => t,
-        Step::Kis(_) => Number::Absent,
-        Step::Propellor(t) => t,
-        Step::Quinto(_) => Number::Absent,
-        Step::Reflect => Number::Absent,
-        Step::Reverse => Number::Absent,
-        Step::Whirl(t, _) => t,
-        Step::Triangulate => Number::Absent,
+        Step::Ambo(t)
+        | Step::Chamfer(t)
+        | Step::Gyro(t, _)
+        | Step::Propellor(t)
+        | Step::Whirl(t, _) => t,
+        Step::Dual
+        | Step::Kis(_)
+        | Step::Quinto(_)
+        | Step::Reflect
+        | Step::Reverse
+        | Step::Triangulate => None,
     }
 }
 
-fn height_in(s: Step) -> Number
+fn height_in(s: Step) -> Option<f32>
     ensures { result ≡ height_in s }
 {
     match s {
-        Step::Ambo(_) => Number::Absent,
-        Step::Chamfer(_) => Number::Absent,
-        Step::Dual => Number::Absent,
-        Step::Gyro(_, h) => h,
-        Step::Kis(h) => h,
-        Step::Propellor(_) => Number::Absent,
-        Step::Quinto(h) => h,
-        Step::Reflect => Number::Absent,
-        Step::Reverse => Number::Absent,
-        Step::Whirl(_, h) => h,
-        Step::Triangulate => Number::Absent,
+        Step::Gyro(_, h) | Step::Kis(h) | Step::Quinto(h) | Step::Whirl(_, h) => h,
+        Step::Ambo(_)
+        | Step::Chamfer(_)
+        | Step::Dual
+        | Step::Propellor(_)
+        | Step::Reflect
+        | Step::Reverse
+        | Step::Triangulate => None,
     }
 }
 
-fn flag_of(t: Number) -> u32
+fn flag_of(t: Option<f32>) -> u32
     ensures value { result ≡ flag_of t }
     ensures upper_bound { result ≤ 1 }
 {
-    match t {
-        Number::Absent => 0,
-        Number::Given(_) => 1,
-    }
+    u32::from(t.is_some())
 }
 
-fn flags_of(t: Number, h: Number) -> u32
+fn flags_of(t: Option<f32>, h: Option<f32>) -> u32
     ensures { result ≡ flag_of t + 2 * flag_of h }
 {
     flag_of(t) + 2 * flag_of(h)
 }
 
-fn bits_in(t: Number) -> u32
+fn bits_in(t: Option<f32>) -> u32
     ensures { result ≡ bits_in t }
 {
-    match t {
-        Number::Absent => 0,
-        Number::Given(x) => words::bits_of(x),
-    }
+    t.map_or(0, words::bits_of)
 }
 
 // Four words.
@@ -109,37 +92,23 @@ fn put_step(out: &mut [u8], at: usize, s: Step)
     );
 }
 
-fn put_steps(steps: [Step; 16], n: usize, out: &mut [u8], from: usize)
-    requires { (n ≤ 16) × (from + 16 * n ≤ length out.old) }
-    ensures { out.new ≡ sets out.old from (bytes_all (flat_map step_words (take n steps))) }
+fn put_steps(steps: &[Step], out: &mut [u8], from: usize)
+    requires { from + 16 * length steps.now ≤ length out.old }
+    ensures { out.new ≡ sets out.old from (bytes_all (flat_map step_words steps.now)) }
 {
-    let mut i = 0;
-    while i < n {
-        let s = steps[i];
-        put_step(out, from + 16 * i, s);
-        i += 1;
+    for (i, s) in steps.iter().enumerate() {
+        put_step(out, from + 16 * i, *s);
     }
 }
 
-fn put_coords(coords: &[f32], out: &mut [u8], from: usize)
-    requires { from + 4 * length coords.now ≤ length out.old }
-    ensures { out.new ≡ sets out.old from (bytes_all (flat_map float_words coords.now)) }
+// The word of each item, one after the other.
+fn put_each<T: Copy, F: Fn(T) -> u32>(items: &[T], out: &mut [u8], from: usize, word: F)
+    requires room { from + 4 * length items.now ≤ length out.old }
+    requires callable { F.IsAlwaysCallable word }
+    ensures { (h : T → List ℕ) → ((x : T) → length (h x) ≡ 1) → ((x : T) (n : ℕ) → F.post word x n → n ∷ [] ≡ h x) → out.new ≡ sets out.old from (bytes_all (flat_map h items.now)) }
 {
-    let mut i = 0;
-    while i < coords.len() {
-        words::put_word(out, from + 4 * i, words::bits_of(coords[i]));
-        i += 1;
-    }
-}
-
-fn put_list(list: &[u32], out: &mut [u8], from: usize)
-    requires { from + 4 * length list.now ≤ length out.old }
-    ensures { out.new ≡ sets out.old from (bytes_all list.now) }
-{
-    let mut i = 0;
-    while i < list.len() {
-        words::put_word(out, from + 4 * i, list[i]);
-        i += 1;
+    for (i, x) in items.iter().enumerate() {
+        words::put_word(out, from + 4 * i, word(*x));
     }
 }
 
@@ -149,7 +118,7 @@ fn put_face(run: &[u32], out: &mut [u8], at: usize)
     ensures { out.new ≡ sets out.old at (bytes_all (face_words run.now)) }
 {
     words::put_word(out, at, run.len() as u32);
-    put_list(run, out, at + 4);
+    put_each(run, out, at + 4, |w| w);
 }
 
 fn put_faces(offsets: &[u32], corners: &[u32], out: &mut [u8], from: usize)
@@ -157,105 +126,77 @@ fn put_faces(offsets: &[u32], corners: &[u32], out: &mut [u8], from: usize)
     requires corners_in_bounds { (from + 4 * (faces offsets.now + length corners.now) ≤ length out.old) × (length corners.now ≤ 1200) }
     ensures { out.new ≡ sets out.old from (bytes_all (flat_map face_words (faces_of offsets.now corners.now))) }
 {
-    let mut f = 0;
-    while f + 1 < offsets.len() {
-        let a = slices::look(offsets, f);
-        let b = slices::look(offsets, f + 1);
+    for f in 0..offsets.len() - 1 {
+        let a = offsets[f] as usize;
+        let b = offsets[f + 1] as usize;
         put_face(&corners[a..b], out, from + 4 * (f + a));
-        f += 1;
     }
 }
 
 // The limits of the file, and the room for its bytes.
-fn limits(n: usize, lo: usize, lk: usize, lx: usize, room: usize) -> Written
+fn limits(n: usize, lo: usize, lk: usize, lx: usize, room: usize) -> Result<u32, Refusal>
     ensures { result ≡ limits_of n lo lk lx room }
 {
     if 16 < n {
-        return Written::Refused {
-            number: 2,
-            place: 3,
-        };
+        return Err(Reason::Limit.at(3));
     }
     if 401 < lo {
-        return Written::Refused {
-            number: 2,
-            place: 0,
-        };
+        return Err(Reason::Limit.at(0));
     }
     if 1200 < lk {
-        return Written::Refused {
-            number: 2,
-            place: 1,
-        };
+        return Err(Reason::Limit.at(1));
     }
     if 400 < lx / 3 {
-        return Written::Refused {
-            number: 2,
-            place: 2,
-        };
+        return Err(Reason::Limit.at(2));
     }
     let size = 8 + 16 * n + 4 * lx + 4 * lo + 4 * lk;
     if room < size {
-        return Written::Refused {
-            number: 13,
-            place: 0,
-        };
+        return Err(Reason::Room.at(0));
     }
-    Written::Done(size as u32)
+    Ok(size as u32)
 }
 
 // Number 1 of the mesh's own table comes first; its number 2 is left to the file's limits.
-fn shape_first(size: Verdict, then: Written) -> Written
+fn shape_first(size: Result<(), Refusal>, then: Result<u32, Refusal>) -> Result<u32, Refusal>
     ensures { result ≡ shape_first size then }
 {
-    let Verdict::Bad { number, place } = size else {
+    let Err(refusal) = size else {
         return then;
     };
-    if number == 1 {
-        return Written::Refused { number: 1, place };
+    if refusal.number == 1 {
+        return Err(refusal);
     }
     then
 }
 
 // The three sections, each after its count.
-fn put_file(
-    steps: [Step; 16],
-    n: usize,
-    offsets: &[u32],
-    corners: &[u32],
-    coords: &[f32],
-    out: &mut [u8],
-)
-    requires { Filing offsets.now corners.now n (length coords.now) (length out.old) }
-    ensures { out.new ≡ sets out.old 0 (file_of (given steps n offsets.now corners.now coords.now)) }
+fn put_file(steps: &[Step], mesh: Mesh<'_>, out: &mut [u8])
+    requires { Filing mesh.offsets.now mesh.corners.now (length steps.now) (length mesh.coords.now) (length out.old) }
+    ensures { out.new ≡ sets out.old 0 (file_of (given steps.now (length steps.now) mesh.entry.offsets.now mesh.entry.corners.now mesh.entry.coords.now)) }
 {
-    words::put_word(out, 0, n as u32);
-    put_steps(steps, n, out, 4);
-    let at = 4 + 16 * n;
-    words::put_word(out, at, (coords.len() / 3) as u32);
-    put_coords(coords, out, at + 4);
-    let on = at + 4 + 4 * coords.len();
-    words::put_word(out, on, (offsets.len() - 1) as u32);
-    put_faces(offsets, corners, out, on + 4);
+    words::put_word(out, 0, steps.len() as u32);
+    put_steps(steps, out, 4);
+    let at = 4 + 16 * steps.len();
+    words::put_word(out, at, (mesh.coords.len() / 3) as u32);
+    put_each(mesh.coords, out, at + 4, words::bits_of);
+    let on = at + 4 + 4 * mesh.coords.len();
+    words::put_word(out, on, (mesh.offsets.len() - 1) as u32);
+    put_faces(mesh.offsets, mesh.corners, out, on + 4);
 }
 
-// Writes a panel file of the first n steps and a mesh into lent bytes.
-pub fn write(
-    steps: [Step; 16],
-    n: usize,
-    offsets: &[u32],
-    corners: &[u32],
-    coords: &[f32],
-    out: &mut [u8],
-) -> Written
-    ensures { Wrote steps n offsets.now corners.now coords.now out.old result out.new }
+// Writes a panel file of steps and a mesh into lent bytes.
+pub fn write(steps: &[Step], mesh: Mesh<'_>, out: &mut [u8]) -> Result<u32, Refusal>
+    ensures { Wrote steps.now (length steps.now) mesh.entry.offsets.now mesh.entry.corners.now mesh.entry.coords.now out.old result out.new }
 {
-    let size = mesh::check_size(offsets, corners.len(), coords.len());
-    let fit = limits(n, offsets.len(), corners.len(), coords.len(), out.len());
-    let told = shape_first(size, fit);
-    let Written::Done(_) = told else {
-        return told;
-    };
-    put_file(steps, n, offsets, corners, coords, out);
-    told
+    let size = mesh::check_size(mesh.offsets, mesh.corners.len(), mesh.coords.len());
+    let fit = limits(
+        steps.len(),
+        mesh.offsets.len(),
+        mesh.corners.len(),
+        mesh.coords.len(),
+        out.len(),
+    );
+    let written = shape_first(size, fit)?;
+    put_file(steps, mesh, out);
+    Ok(written)
 }

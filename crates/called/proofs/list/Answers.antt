@@ -1,8 +1,8 @@
-use Rattle.called.specs.CalledLaws.{listed-known, listed-unknown}
+use Rattle.called.specs.CalledLaws.{lists-known, lists-unknown}
 use Rattle.called.proofs.list.Goals as goal
 
-pub returns-then-known_list : goal.returns-then-known_list
-returns-then-known_list c = listed-known _ _ _ _ _ _ _ _ _ _ c.known_list.ensures c.if-known_list.true c.list_named.ensures c.list.ensures
+pub returns-in_default : goal.returns-in_default
+returns-in_default c = lists-unknown _ _ _ _ _ _ _ c.refuse.ensures.first c.refuse.ensures.second c.in_default.ensures (rw c.at.ensures at c.refuse.ensures.answer)
 
 pub returns : goal.returns
-returns c = listed-unknown _ _ _ _ _ _ _ _ _ _ c.known_list.ensures c.if-known_list.false c.refuse.ensures.value c.refuse.ensures.zero c.refuse.ensures.zero_2
+returns c = lists-known _ _ _ _ _ _ _ c.in-Some.ensures c.list.ensures

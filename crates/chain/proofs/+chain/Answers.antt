@@ -1,34 +1,19 @@
-use mathlib.Core.Path.{sym, ◌∙◌}
-use Prim.Native.Nat.{◌≤◌, ◌-◌}
 use native.Mathlib.Omega.{arith}
-use lib.ListN.{length, get_or}
-use lib.Seq.{length-take-le}
-use Rattle.steps.specs.Steps.{masks}
-use Rattle.chain.specs.Chained.{front}
-use Rattle.chain.specs.ChainLaws.{went, ready_on, chained-last, chained-stop, chained-on}
+use Rattle.chain.specs.ChainLaws.{ready_on, chained-stop, chained-from, chained-last, chained-on}
 use Rattle.chain.proofs.+chain.Goals as goal
 
-pub returns-then-k-n : goal.returns-then-k-n
-returns-then-k-n t c =
-    let most : c.args.n ≤ length c.args.steps = omega (arith, c.requires, c.well_formed.0) in
-    chained-last _ _ _ _ _ _ most _ _ _ c.if-k-n.true c.apply-made.ensures c.finish.ensures
-
-pub returns-in_default : goal.returns-in_default
-returns-in_default t c =
-    let most : c.args.n ≤ length c.args.steps = omega (arith, c.requires, c.well_formed.0) in
-    chained-stop _ _ _ _ _ _ most _ _ _ _ _ _ c.requires.more c.if-k-n.false c.apply-made-2.ensures c.in_default.is c.finish-ran.ensures
-
-pub extent_of-next-requires : goal.extent_of-next-requires
-extent_of-next-requires t c =
-    let y = went (masks c.args.mask c.args.arities.now c.args.numbers.now) (get_or c.args.steps c.args.k _) (front c.args.e c.args.ao.now c.args.ac.now c.args.ap.now) c.args.bo.now c.args.bc.now c.args.bp.now _ c.apply-made-2.ensures c.in-Done.is in
-    omega (arith, y.left.offsets)
+pub returns-in_default-clause-chained : goal.returns-in_default-clause-chained
+returns-in_default-clause-chained t c = chained-stop _ c.in_default.is
 
 pub chain-requires : goal.chain-requires
 chain-requires t c =
-    let y = went (masks c.args.mask c.args.arities.now c.args.numbers.now) (get_or c.args.steps c.args.k _) (front c.args.e c.args.ao.now c.args.ac.now c.args.ap.now) c.args.bo.now c.args.bc.now c.args.bp.now _ c.apply-made-2.ensures c.in-Done.is in
-    (omega (arith, c.requires, c.if-k-n), ready_on _ _ _ y c.extent_of-next.ensures (omega (arith, c.requires, c.if-k-n)) c.requires.most)
+    let left = c.in-Some.ensures.cases.1 in
+    let ready = rw c.in-Ok.is at c.requires in
+    (omega arith, ready_on _ _ _ _ _ c.step-ran.ensures.stepped _ (omega arith))
 
-pub returns : goal.returns
-returns t c =
-    let most : c.args.n ≤ length c.args.steps = omega (arith, c.requires, c.well_formed.0) in
-    chained-on _ _ _ _ _ _ most _ _ _ _ _ _ c.requires.more c.if-k-n.false _ _ _ c.apply-made-2.ensures c.in-Done.is c.extent_of-next.ensures c.finish-ran.ensures c.chain.ensures
+pub returns-in_default-split_first-clause-chained : goal.returns-in_default-split_first-clause-chained
+returns-in_default-split_first-clause-chained t c =
+    chained-from _ c.in-Ok.is (chained-last _ _ _ _ _ _ _ c.in_default-split_first.ensures.cases c.front-mesh.ensures c.step.ensures.stepped)
+
+pub returns-clause-chained : goal.returns-clause-chained
+returns-clause-chained t c = chained-from _ c.in-Ok.is (chained-on _ _ _ _ _ _ _ c.in-Some.ensures.cases.0 c.front-mesh.ensures c.step-ran.ensures.stepped c.chain.ensures.chained)

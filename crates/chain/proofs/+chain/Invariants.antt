@@ -1,6 +1,6 @@
-use Prim.Native.Nat.{◌-◌}
+use lib.ListN.{length}
 use Rattle.chain.proofs.+chain.Given as goal
 
 -- how many steps are left
 abbrev pub decreases-chain : goal.decreases-chain
-decreases-chain l = l.n - l.k
+decreases-chain l = length l.rest.now

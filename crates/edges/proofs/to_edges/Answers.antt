@@ -1,29 +1,28 @@
-use Prim.Native.Nat.{◌<◌}
-use lib.ListN.{length}
-use mathlib.Core.Path.{◌∙◌, sym, refl}
-use native.Mathlib.Omega.{arith}
-use native.Mathlib.Nat.{le_refl}
+use Rattle.std.proofs.Common.{sym, arith}
 use Rattle.mesh.specs.Edges.{sound-faced, tests-sound, edges_few}
-use Rattle.edges.specs.EdgeList.{came, came-done, listing-bad, listing-tight}
+use Rattle.edges.specs.EdgeList.{listing_is, length_listed, over_listed}
 use Rattle.edges.proofs.to_edges.Goals as goal
 
-pub returns-in-Bad : goal.returns-in-Bad
-returns-in-Bad c = let h = came _ _ _ _ _ (listing-bad _ _ _ _ _ c.check-verdict.ensures c.in-Bad.is) refl refl in record { value = h.0; out_after = h.1 }
+pub invariant_of-faces : goal.invariant_of-faces
+invariant_of-faces c = record { shaped = (tests-sound _ _ _ (sym c.in_ok-check.ensures)).0.shaped }
 
-pub ups_below-n-requires : goal.ups_below-n-requires
-ups_below-n-requires c = record { faced = sound-faced (tests-sound _ _ _ (sym c.check-verdict.ensures ∙ c.in_default.is)).0; stop_in_bounds = le_refl _ }
+pub ups_below-n-requires-clause-full : goal.ups_below-n-requires-clause-full
+ups_below-n-requires-clause-full c = (tests-sound _ _ _ (sym c.in_ok-check.ensures)).0.full
 
-pub returns-then-out-n : goal.returns-then-out-n
-returns-then-out-n c = let h : length c.args.out.now < c.ups_below-n.result = omega arith in
-    let h = came _ _ _ _ _ (listing-tight _ _ _ _ (sym c.check-verdict.ensures ∙ c.in_default.is) _ c.ups_below-n.ensures h) refl refl in record { value = h.0; out_after = h.1 }
+pub put_edges-requires-clause-full : goal.put_edges-requires-clause-full
+put_edges-requires-clause-full c = (tests-sound _ _ _ (sym c.in_ok-check.ensures)).0.full
 
-pub put_edges-requires : goal.put_edges-requires
-put_edges-requires c = record { sound = (tests-sound _ _ _ (sym c.check-verdict.ensures ∙ c.in_default.is)).0; corners_in_bounds = (omega (arith, c.ups_below-n.ensures)) }
-
-pub low-requires : goal.low-requires
-low-requires c =
-    let s = (tests-sound _ _ _ (sym c.check-verdict.ensures ∙ c.in_default.is)).0 in
+pub overflow_cast-result : goal.overflow_cast-result
+overflow_cast-result c =
+    let s = (tests-sound _ _ _ (sym c.in_ok-check.ensures)).0 in
     omega (arith, c.ups_below-n.ensures, edges_few _ _ (sound-faced s))
 
-pub returns : goal.returns
-returns c = let h = came-done _ _ _ _ _ _ _ (sym c.check-verdict.ensures ∙ c.in_default.is) c.ups_below-n.ensures c.if-out-n.false c.low.ensures c.put_edges.ensures in record { value = h.0; out_after = h.1 }
+pub returns-clause-value : goal.returns-clause-value
+returns-clause-value c =
+    let l = length_listed _ _ _ c.in_ok-check.ensures in
+    grind (arith, listing_is)
+
+pub returns-clause-out_after : goal.returns-clause-out_after
+returns-clause-out_after c =
+    let l = over_listed _ _ _ c.in_ok-check.ensures c.args.out.now (omega arith) in
+    grind (arith, listing_is)

@@ -1,5 +1,6 @@
+use Rattle.std.proofs.Common.{rules}
 use Rattle.exports.specs.Told.{told}
 use Rattle.exports.proofs.cg_ambo.Goals as goal
 
 pub returns : goal.returns
-returns c = told (rw c.optional-r.ensures at c.ambo-a.ensures) c.spell.ensures
+returns c = let p = told (rw c.optional-r.ensures at c.ambo.ensures.came) c.spell.ensures in let s = c.ambo.ensures.same in search rules

@@ -3,4 +3,4 @@ use mathlib.Core.Path.{ap, ◌∙◌}
 use Rattle.exports.proofs.cg_edges.Goals as goal
 
 pub returns : goal.returns
-returns c = record { words = c.spell_listing.ensures ∙ ap listing_words c.to_edges-l.ensures.value; list = c.to_edges-l.ensures.out_after }
+returns c = record { words = c.spell_listing.ensures ∙ ap listing_words c.to_edges.ensures.value; list = c.to_edges.ensures.out_after }

@@ -2,4 +2,4 @@ use Rattle.exports.specs.Filing.{write-told}
 use Rattle.exports.proofs.cg_panel_write.Goals as goal
 
 pub returns : goal.returns
-returns c = write-told c.write-w.ensures c.spell_written.ensures
+returns c = write-told c.write.ensures c.spell_written.ensures

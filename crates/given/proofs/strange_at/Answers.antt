@@ -1,21 +1,16 @@
-use native.Mathlib.Omega.{arith}
-use Rattle.given.specs.GivenLaws.{first-few, strange-short, place-yes, place-no}
+use Rattle.std.proofs.Common.{refl, arith}
+use Rattle.slices.specs.First.{found_at}
+use Rattle.given.specs.GivenLaws.{strange-none, strange-some}
 use Rattle.given.proofs.strange_at.Goals as goal
 
-pub overflow_mul-unknown_at : goal.overflow_mul-unknown_at
-overflow_mul-unknown_at c =
-    let ws = c.args.steps.now in
-    let h = strange-short ws _ c.strange.ensures c.if-strange.true in
-    omega (arith, h, c.unknown_at.ensures, first-few ws)
+pub returns-in_err-i : goal.returns-in_err-i
+returns-in_err-i c = rw c.from_residual.ensures (strange-none _ (omega arith) c.in_err-i.ensures)
 
-pub low-requires : goal.low-requires
-low-requires c =
-    let ws = c.args.steps.now in
-    let h = strange-short ws _ c.strange.ensures c.if-strange.true in
-    omega (arith, h, c.unknown_at.ensures, first-few ws)
+pub overflow_mul-result : goal.overflow_mul-result
+overflow_mul-result c = let n = found_at c.in_ok-i.ensures refl in omega (arith, n.within)
 
-pub returns-then-strange : goal.returns-then-strange
-returns-then-strange c = place-yes c.args.steps.now c.strange.ensures c.if-strange.true c.unknown_at.ensures c.low.ensures
+pub overflow_cast-result : goal.overflow_cast-result
+overflow_cast-result c = let n = found_at c.in_ok-i.ensures refl in omega (arith, n.within)
 
 pub returns : goal.returns
-returns c = place-no c.args.steps.now c.strange.ensures c.if-strange.false
+returns c = strange-some _ _ (omega arith) c.in_ok-i.ensures

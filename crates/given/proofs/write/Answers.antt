@@ -1,8 +1,14 @@
-use Rattle.given.specs.GivenLaws.{wrote-strange, wrote-plain}
+use Rattle.std.proofs.Common.{refl, arith, rules, ◌≤◌, length}
+use Rattle.given.specs.GivenLaws.{wrote-strange, wrote-few, wrote-many}
 use Rattle.given.proofs.write.Goals as goal
 
-pub returns-then-strange : goal.returns-then-strange
-returns-then-strange c = wrote-strange _ _ _ _ _ c.strange.ensures c.if-strange.true c.strange_at.ensures
+pub returns-in-Some : goal.returns-in-Some
+returns-in-Some c = rw c.at.ensures (wrote-strange _ _ _ _ _ c.in-Some.ensures)
+
+pub returns-then-steps-gt16 : goal.returns-then-steps-gt16
+returns-then-steps-gt16 c = wrote-many _ _ _ _ _ _ _ _ c.in_default.ensures (omega arith) (omega arith) c.write.ensures
 
 pub returns : goal.returns
-returns c = wrote-plain _ _ _ _ _ _ _ c.strange.ensures c.if-strange.false c.steps_of.ensures c.write.ensures
+returns c =
+    let h : length c.args.steps.now ≤ length c.steps_of-list.result = search rules in
+    wrote-few _ _ _ _ _ _ _ c.in_default.ensures c.steps_of-list.ensures h c.write-2.ensures

@@ -1,12 +1,15 @@
+use Rattle.std.proofs.Common.{sym, ◌∙◌, length-take-le}
 use native.Mathlib.Omega.{arith}
-use lib.ListN.{length}
-use Rattle.steps.specs.Steps.{mesh, room}
-use Rattle.recipes.specs.RecipeLaws.{rows-most, rows_fit}
+use Rattle.recipes.specs.RecipeLaws.{rows-in}
 use Rattle.ledger.proofs.recipe.Goals as goal
 
-pub write_rows-requires : goal.write_rows-requires
-write_rows-requires c =
-    let s = c.args in (
-      omega (arith, c.done_of-done.ensures, c.core-ran.ensures.done, rows-most (length s.rows.now) s.steps s.n (mesh s.io.now s.ic.now s.ip.now) (room s.ao.now s.ac.now s.ap.now) (room s.bo.now s.bc.now s.bp.now) (room s.xo.now s.xc.now s.xp.now)),
-      omega (arith, c.done_of-done.ensures, c.core-ran.ensures.done, rows_fit (length s.rows.now) s.steps s.n (mesh s.io.now s.ic.now s.ip.now) (room s.ao.now s.ac.now s.ap.now) (room s.bo.now s.bc.now s.bp.now) (room s.xo.now s.xc.now s.xp.now)),
-    )
+pub slice_bounds-copy_from_slice-end : goal.slice_bounds-copy_from_slice-end
+slice_bounds-copy_from_slice-end c = (rows-in _ _ _ _ c.core-ran.ensures).1.1
+
+pub slice_bounds-copy_from_slice-end-2 : goal.slice_bounds-copy_from_slice-end-2
+slice_bounds-copy_from_slice-end-2 c = sym (length-take-le _ c.args.rows.now (rows-in _ _ _ _ c.core-ran.ensures).1.1)
+
+pub copy_from_slice-requires : goal.copy_from_slice-requires
+copy_from_slice-requires c =
+    let r = rows-in _ _ _ _ c.core-ran.ensures in
+    length-take-le _ c.args.rows.now r.1.1 ∙ sym (length-take-le _ c.core-ran.result.rows (omega (arith, r)))

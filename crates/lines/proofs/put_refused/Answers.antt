@@ -3,9 +3,9 @@ use Rattle.text.specs.TextLaws.{put-none, put_then}
 use Rattle.lines.specs.Lines.{refused_line}
 use Rattle.lines.proofs.put_refused.Goals as goal
 
-pub returns-in-Done : goal.returns-in-Done
-returns-in-Done c = record { put = rw c.in-Done.is (put-none _ _); upper_bound = omega arith }
+pub returns-in_default : goal.returns-in_default
+returns-in_default c = record { put = rw c.in_default.is (put-none _ _); upper_bound = omega arith }
 
-pub returns-in-Refused : goal.returns-in-Refused
+pub returns : goal.returns
 unfolding refused_line
-returns-in-Refused c = record { put = rw c.in-Refused.is (put_then c.put_then-word.ensures.put (put_then c.put_run-next.ensures c.put_refusal.ensures.put)); upper_bound = omega (arith, c.put_then-word.ensures.upper_bound, c.put_run-next.ensures.end, c.put_refusal.ensures.upper_bound) }
+returns c = record { put = rw c.in-Err.is (put_then c.put_then-word.ensures.put (put_then c.put_run-next.ensures c.put_refusal.ensures.put)); upper_bound = omega (arith, c.put_then-word.ensures.upper_bound, c.put_run-next.ensures.end, c.put_refusal.ensures.upper_bound) }

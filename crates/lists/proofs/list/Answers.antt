@@ -1,11 +1,8 @@
-use mathlib.Core.Bool.{true, false}
-use Rattle.lists.specs.ListLaws.{listed-as}
+use mathlib.Core.Path.{refl, ◌∙◌}
+use Rattle.lists.specs.ListLaws.{masks_by, lists_by}
 use Rattle.lists.proofs.list.Goals as goal
-
-pub returns-then-defaults : goal.returns-then-defaults
-returns-then-defaults c =
-    listed-as _ _ _ _ _ true _ _ _ _ c.defaults.ensures c.if-defaults.true c.play.ensures
 
 pub returns : goal.returns
 returns c =
-    listed-as _ _ _ _ _ false _ _ _ _ c.defaults.ensures c.if-defaults.false c.play-2.ensures
+    let masks = c.arities_of-arities.ensures c.args.regular ∙ masks_by c.arities_of-arities.result _ c.args.regular c.is_some.ensures c.unwrap_or.ensures refl in
+    lists_by _ _ (c.as_slice.ensures ∙ c.steps_of-steps.ensures) masks c.run-ran.ensures

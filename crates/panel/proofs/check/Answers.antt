@@ -1,58 +1,65 @@
-use mathlib.Core.Path.{sym, ◌∙◌}
+use mathlib.Core.Path.{refl, sym}
 use native.Mathlib.Omega.{arith}
+use Rattle.std.proofs.lemmas.Result.{err_from_is_err_and}
 use Rattle.parts.specs.Laws.{section-has, count-has}
 use Rattle.panel.specs.Laws.{faces-has}
-use Rattle.panel.specs.Whole.{positions-at, count-place, corners-at, steps-stop, steps_on, positions-stop, positions-on, count-stop, count-on, corners-stop, corners-on}
+use Rattle.panel.specs.Whole.{steps-stop, steps_on, positions-stop, positions-on, count-stop, count-on, corners-stop, corners-on}
 use Rattle.panel.proofs.check.Goals as goal
 
-pub returns-in_default : goal.returns-in_default
-returns-in_default c = steps-stop _ _ _ c.steps_part-listed.ensures c.in_default.is c.refusal.ensures
+pub returns-in_err-steps : goal.returns-in_err-steps
+returns-in_err-steps c =
+    let p = err_from_is_err_and c.from_residual.result c.from_residual.ensures.1 in
+    rw (p.1, p.2) (steps-stop _ _ _ c.in_err-steps.ensures refl refl)
 
-pub items_part-placed-requires : goal.items_part-placed-requires
-items_part-placed-requires c = let h = (section-has _ _ _ _ _ _ (sym c.steps_part-listed.ensures ∙ c.in-Has.is)).1 in omega (arith, h, c.wide.ensures)
+pub items_part-requires : goal.items_part-requires
+items_part-requires c = let h = (section-has _ _ _ _ _ _ (sym c.in_ok-steps.ensures)).1 in omega (arith, h)
 
-pub returns-in_default-placed : goal.returns-in_default-placed
-returns-in_default-placed c =
-    steps_on _ _ _ c.steps_part-listed.ensures c.in-Has.is
-    (positions-stop _ _ _ _ (positions-at _ _ _ _ c.wide.ensures c.items_part-placed.ensures) c.in_default-placed.is c.refusal-in_default-placed.ensures)
+pub returns-in_err-positions : goal.returns-in_err-positions
+returns-in_err-positions c =
+    let p = err_from_is_err_and c.from_residual-in_err-positions.result c.from_residual-in_err-positions.ensures.1 in
+    rw (p.1, p.2) (steps_on _ _ _ c.in_ok-steps.ensures refl (positions-stop _ _ _ _ c.in_err-positions.ensures refl refl))
 
-pub count_at-counted-requires : goal.count_at-counted-requires
-count_at-counted-requires c =
-    let h = (section-has _ _ _ _ _ _ (sym c.steps_part-listed.ensures ∙ c.in-Has.is)).1 in
-    let l = (section-has _ _ _ _ _ _ (sym (positions-at _ _ _ _ c.wide.ensures c.items_part-placed.ensures) ∙ c.in-Has-placed.is)).1 in
-    omega (arith, h, l, c.wide-2.ensures, c.wide-3.ensures)
+pub count_at-requires : goal.count_at-requires
+count_at-requires c =
+    let h = (section-has _ _ _ _ _ _ (sym c.in_ok-steps.ensures)).1 in
+    let l = (section-has _ _ _ _ _ _ (sym c.in_ok-positions.ensures)).1 in
+    omega (arith, h, l)
 
-pub returns-in_default-counted : goal.returns-in_default-counted
-returns-in_default-counted c =
-    steps_on _ _ _ c.steps_part-listed.ensures c.in-Has.is
-    (positions-on _ _ _ _ (positions-at _ _ _ _ c.wide.ensures c.items_part-placed.ensures) c.in-Has-placed.is
-    (count-stop _ _ _ _ _ (count-place _ _ _ _ _ _ c.wide-2.ensures c.wide-3.ensures c.count_at-counted.ensures) c.in_default-counted.is c.refusal-in_default-counted.ensures))
+pub returns-in_err-faces : goal.returns-in_err-faces
+returns-in_err-faces c =
+    let p = err_from_is_err_and c.from_residual-in_err-faces.result c.from_residual-in_err-faces.ensures.1 in
+    rw (p.1, p.2) (
+    steps_on _ _ _ c.in_ok-steps.ensures refl (
+    positions-on _ _ _ _ c.in_ok-positions.ensures refl (
+    count-stop _ _ _ _ _ c.in_err-faces.ensures refl refl)))
 
-pub check_faces-cornered-requires : goal.check_faces-cornered-requires
-check_faces-cornered-requires c =
-    let h = (section-has _ _ _ _ _ _ (sym c.steps_part-listed.ensures ∙ c.in-Has.is)).1 in
-    let l = (section-has _ _ _ _ _ _ (sym (positions-at _ _ _ _ c.wide.ensures c.items_part-placed.ensures) ∙ c.in-Has-placed.is)).1 in
-    let m = (count-has _ _ _ _ (sym (count-place _ _ _ _ _ _ c.wide-2.ensures c.wide-3.ensures c.count_at-counted.ensures) ∙ c.in-Has-counted.is)).1 in
-    omega (arith, h, l, m, c.wide-2.ensures, c.wide-3.ensures, c.wide-4.ensures)
+pub check_faces-requires : goal.check_faces-requires
+check_faces-requires c =
+    let h = (section-has _ _ _ _ _ _ (sym c.in_ok-steps.ensures)).1 in
+    let l = (section-has _ _ _ _ _ _ (sym c.in_ok-positions.ensures)).1 in
+    let m = (count-has _ _ _ _ (sym c.in_ok-faces.ensures)).1 in
+    omega (arith, h, l, m)
 
-pub returns-in_default-cornered : goal.returns-in_default-cornered
-returns-in_default-cornered c =
-    steps_on _ _ _ c.steps_part-listed.ensures c.in-Has.is
-    (positions-on _ _ _ _ (positions-at _ _ _ _ c.wide.ensures c.items_part-placed.ensures) c.in-Has-placed.is
-    (count-on _ _ _ _ _ (count-place _ _ _ _ _ _ c.wide-2.ensures c.wide-3.ensures c.count_at-counted.ensures) c.in-Has-counted.is
-    (corners-stop _ _ _ _ _ _ (corners-at _ _ _ _ _ _ _ _ c.wide-2.ensures c.wide-3.ensures c.wide-4.ensures c.check_faces-cornered.ensures) c.in_default-cornered.is c.refusal-in_default-cornered.ensures)))
+pub returns-in_err-corners : goal.returns-in_err-corners
+returns-in_err-corners c =
+    let p = err_from_is_err_and c.from_residual-in_err-corners.result c.from_residual-in_err-corners.ensures.1 in
+    rw (p.1, p.2) (
+    steps_on _ _ _ c.in_ok-steps.ensures refl (
+    positions-on _ _ _ _ c.in_ok-positions.ensures refl (
+    count-on _ _ _ _ _ c.in_ok-faces.ensures refl (
+    corners-stop _ _ _ _ _ _ c.in_err-corners.ensures refl refl))))
 
 pub ending_of-requires : goal.ending_of-requires
 ending_of-requires c = (
-  (section-has _ _ _ _ _ _ (sym c.steps_part-listed.ensures ∙ c.in-Has.is)).1,
-  (section-has _ _ _ _ _ _ (sym (positions-at _ _ _ _ c.wide.ensures c.items_part-placed.ensures) ∙ c.in-Has-placed.is)).1,
-  (count-has _ _ _ _ (sym (count-place _ _ _ _ _ _ c.wide-2.ensures c.wide-3.ensures c.count_at-counted.ensures) ∙ c.in-Has-counted.is)).1,
-  (faces-has _ _ 0 _ _ (omega arith) (sym (corners-at _ _ _ _ _ _ _ _ c.wide-2.ensures c.wide-3.ensures c.wide-4.ensures c.check_faces-cornered.ensures) ∙ c.in-Has-cornered.is)).1,
+  (section-has _ _ _ _ _ _ (sym c.in_ok-steps.ensures)).1,
+  (section-has _ _ _ _ _ _ (sym c.in_ok-positions.ensures)).1,
+  (count-has _ _ _ _ (sym c.in_ok-faces.ensures)).1,
+  (faces-has _ _ 0 _ _ (omega arith) (sym c.in_ok-corners.ensures)).1,
 )
 
 pub returns : goal.returns
 returns c =
-    steps_on _ _ _ c.steps_part-listed.ensures c.in-Has.is
-    (positions-on _ _ _ _ (positions-at _ _ _ _ c.wide.ensures c.items_part-placed.ensures) c.in-Has-placed.is
-    (count-on _ _ _ _ _ (count-place _ _ _ _ _ _ c.wide-2.ensures c.wide-3.ensures c.count_at-counted.ensures) c.in-Has-counted.is
-    (corners-on _ _ _ _ _ _ (corners-at _ _ _ _ _ _ _ _ c.wide-2.ensures c.wide-3.ensures c.wide-4.ensures c.check_faces-cornered.ensures) c.in-Has-cornered.is c.ending_of.ensures)))
+    steps_on _ _ _ c.in_ok-steps.ensures refl (
+    positions-on _ _ _ _ c.in_ok-positions.ensures refl (
+    count-on _ _ _ _ _ c.in_ok-faces.ensures refl (
+    corners-on _ _ _ _ _ _ c.in_ok-corners.ensures refl c.ending_of.ensures)))

@@ -1,17 +1,17 @@
-use Rattle.parts.specs.Laws.{items-start}
-use Prim.Native.Nat.{◌-◌}
+use mathlib.Core.Path.{refl}
 use native.Mathlib.Omega.{arith}
+use Rattle.std.proofs.lemmas.Result.{err_from_is_err_and}
 use Rattle.parts.specs.Laws.{items-stop, items-on, items-end}
 use Rattle.parts.proofs.check_items.Goals as goal
 
-pub loop-i-init : goal.loop-i-init
-loop-i-init c = (omega arith, omega arith, items-start _ _ _ _)
+pub returns-in_err-says : goal.returns-in_err-says
+returns-in_err-says g c say agree =
+    let p = err_from_is_err_and c.from_residual.result c.from_residual.ensures.1 in
+    rw (p.1, p.2) (items-stop _ _ _ _ _ _ _ _ _ (c.loop.invariant.1 say agree) (omega arith) (agree _ _ (omega arith) c.in_err-says.ensures) refl)
 
-pub returns-in_default : goal.returns-in_default
-returns-in_default c = items-stop _ _ _ _ _ _ _ _ _ c.loop-i.invariant.2 (omega arith) c.whole_says-says.ensures c.in_default.is
-
-pub loop-i-preserved : goal.loop-i-preserved
-loop-i-preserved c = (omega arith, omega arith, items-on _ _ _ _ _ _ _ _ c.loop-i.invariant.2 (omega arith) c.whole_says-says.ensures c.in-Has.is)
+pub loop-preserved : goal.loop-preserved
+loop-preserved g c =
+    (omega arith, λ say agree. items-on _ _ _ _ _ _ _ _ (c.loop.invariant.1 say agree) (omega arith) (agree _ _ (omega arith) c.says.ensures) c.in_ok-says.was)
 
 pub returns : goal.returns
-returns c = items-end _ _ _ _ _ _ c.loop-i.invariant.2 (omega arith)
+returns g c say agree = items-end _ _ _ _ _ _ (c.loop.invariant.1 say agree) (omega arith)

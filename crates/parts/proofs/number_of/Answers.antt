@@ -1,6 +1,6 @@
 use mathlib.Core.Path.{ap}
-use Rattle.operators.specs.declared.Number.TheVariants.{Given}
+use Rattle.std.specs.Prelude.{Some, None}
 use Rattle.parts.proofs.number_of.Goals as goal
 
 pub returns-then-present : goal.returns-then-present
-returns-then-present c = rw c.if-present.true (ap Given c.float_of.ensures)
+returns-then-present c = rw c.if-present.true (ap Some c.float_of.ensures)

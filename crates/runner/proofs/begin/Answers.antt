@@ -1,16 +1,11 @@
-use Rattle.steps.specs.Steps.{mesh}
 use Rattle.runner.specs.RunLaws.{run-many, run_none, run-list}
 use Rattle.runner.proofs.begin.Goals as goal
 
--- src/lib.rt:90:9
-pub returns-then-n-gt16 : goal.returns-then-n-gt16
-returns-then-n-gt16 c = run-many _ _ _ _ _ _ _ c.if-n-gt16.true _
+pub returns-then-steps-gt16-clause-chained : goal.returns-then-steps-gt16-clause-chained
+returns-then-steps-gt16-clause-chained c = run-many _ _ _ _ _ _ _ c.if-steps-gt16.true (rw (c.into.ensures, c.at.ensures) at c.none_done.ensures)
 
--- src/lib.rt:98:9
-pub returns-then-n-eq0 : goal.returns-then-n-eq0
-returns-then-n-eq0 c =
-    run_none _ _ _ (mesh c.args.io.now c.args.ic.now c.args.ip.now) _ _ _ c.if-n-gt16.false c.if-n-eq0.true c.copy-answer.ensures
+pub returns-in_default-clause-chained : goal.returns-in_default-clause-chained
+returns-in_default-clause-chained c = run_none _ _ _ _ _ c.in_default.ensures.cases c.copy.ensures.came c.none_done-in_default.ensures
 
--- src/lib.rt:56:1
-pub returns : goal.returns
-returns c = run-list _ _ _ _ _ _ _ c.if-n-gt16.false c.start.ensures
+pub returns-clause-chained : goal.returns-clause-chained
+returns-clause-chained c = run-list _ _ _ _ _ c.if-steps-gt16.false c.in-Some.ensures.cases.0 (rw c.blank_rows.ensures at c.start.ensures.chained)

@@ -1,16 +1,6 @@
-use native.Mathlib.Omega.{arith}
-use lib.ListN.{length-set}
-use Rattle.words.specs.Words.{put-bytes}
+use Rattle.std.proofs.Common.{◌∙◌, arith}
+use Rattle.words.specs.Words.{bytes_put}
 use Rattle.words.proofs.put_word.Goals as goal
 
-pub bounds-out-at-2 : goal.bounds-out-at-2
-bounds-out-at-2 c = simp length-set (omega arith)
-
-pub bounds-out-at-3 : goal.bounds-out-at-3
-bounds-out-at-3 c = simp length-set (omega arith)
-
-pub bounds-out-at-4 : goal.bounds-out-at-4
-bounds-out-at-4 c = simp length-set (omega arith)
-
 pub returns : goal.returns
-returns c = put-bytes _ _ _
+returns c = bytes_put _ _ c.args.at _ c.args.w (omega arith) c.requires c.ranges.w.fits (c.copy_from_slice.ensures.after ∙ c.to_le_bytes.ensures)

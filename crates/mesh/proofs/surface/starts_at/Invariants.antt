@@ -1,0 +1,6 @@
+use Rattle.slices.specs.First.{is_at}
+use Rattle.mesh.specs.Scan.{Skipped}
+use Rattle.mesh.proofs.surface.starts_at.Given as goal
+
+abbrev pub invariant-loop-c : goal.invariant-loop-c
+invariant-loop-c l = Skipped (is_at l.corners l.v) l.stop l.from l.c
