@@ -3,6 +3,7 @@
 #![tactic(auto)]
 
 use cases::answers::Called;
+use cases::lenient::Dropping;
 use cases::shapes::{PILLOW, T, TRIANGLE, TWO_T};
 use mesh::{Mesh, MeshMut};
 use std::io;
@@ -90,6 +91,7 @@ fn clamped(rt: &impl Print) -> io::Result<()> {
 }
 
 fn main(rt: HostRuntime) -> io::Result<()> {
+    let rt = Dropping(&rt);
     gyros(&rt)?;
     duals(&rt)?;
     endless(&rt)?;

@@ -1,5 +1,6 @@
 // What the library answers, as fields of a line.
 
+use crate::text::Parted;
 use engine::{Counts, Stop};
 use mesh::Refusal;
 use std::fmt;
@@ -13,8 +14,8 @@ pub struct Called(pub Result<Counts, Stop>);
 impl Display for Called {
     fn fmt<W: fmt::Write>(&self, f: &mut fmt::Formatter<W>) -> fmt::Result {
         match self.0 {
-            Ok(counts) => write!(f, "0 0 0 {} {} {}", counts.v, counts.e, counts.f),
-            Err(stop) => write!(f, "{} {} {} 0 0 0", stop.number, stop.place, stop.step),
+            Ok(counts) => Parted(&[0, 0, 0, counts.v, counts.e, counts.f]).fmt(f),
+            Err(stop) => Parted(&[stop.number, stop.place, stop.step, 0, 0, 0]).fmt(f),
         }
     }
 }
@@ -25,6 +26,6 @@ pub struct Checked(pub Result<(), Refusal>);
 
 impl Display for Checked {
     fn fmt<W: fmt::Write>(&self, f: &mut fmt::Formatter<W>) -> fmt::Result {
-        write!(f, "{} {}", number_of(self.0), place_of(self.0))
+        Parted(&[number_of(self.0), place_of(self.0)]).fmt(f)
     }
 }

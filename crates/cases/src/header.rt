@@ -58,7 +58,14 @@ impl Header {
     pub fn read<R: Read>(input: &mut R) -> Result<Header, Fault>
         ensures { IfOk result (λ h. Within h) }
     {
-        let header = Header::from(read_array(input)?);
+        Header::checked(read_array(input)?)
+    }
+
+    // The header of these words, where each count is within its limit.
+    pub fn checked(words: [u32; 14]) -> Result<Header, Fault>
+        ensures { IfOk result (λ h. Within h) }
+    {
+        let header = Header::from(words);
         if header.is_within() {
             Ok(header)
         } else {

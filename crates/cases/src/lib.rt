@@ -9,6 +9,7 @@ pub mod fault;
 pub mod flags;
 pub mod header;
 pub mod input;
+pub mod lenient;
 pub mod operator;
 pub mod owned;
 pub mod playing;

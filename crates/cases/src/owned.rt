@@ -1,7 +1,10 @@
 // Meshes that own their lists: that of a case, and those that are lent to a call.
 
+ghost use Rattle.std.specs.Prelude.{◌≡◌, ℕ, [], ◌∷◌, ◌+◌, ◌*◌, ◌%◌, ◌^◌, ◌<◌, List, Float, length, slice_index, slice_index_or, from_bits};
+ghost use Rattle.std.specs.Float.{binary32};
+
 use crate::header::Sizes;
-use crate::text::{Float, Listed};
+use crate::text::Listed;
 use mesh::{Mesh, MeshMut};
 use std::alloc::{AllocError, Global};
 use std::fmt;
@@ -50,36 +53,68 @@ impl OwnedMesh {
     }
 }
 
+// Fills a list with the numbers from `fill` on, 0 after the largest.
+pub fn fill_numbers(list: &mut [u32], fill: u32)
+    ensures len { length list.new ≡ length list.old }
+    ensures each { (k : ℕ) → k < length list.old → slice_index list.new k ≡ (fill + k) % 2 ^ 32 }
+{
+    let mut next = fill;
+    for n in list.iter_mut() {
+        *n = next;
+        next = next.wrapping_add(1);
+    }
+}
+
+// Fills a list with the floats of these patterns.
+pub fn fill_floats(list: &mut [f32], fill: u32)
+    ensures len { length list.new ≡ length list.old }
+    ensures each { (d : Float) (k : ℕ) → k < length list.old → slice_index_or list.new k d ≡ from_bits binary32 ((fill + k) % 2 ^ 32) }
+{
+    let mut next = fill;
+    for x in list.iter_mut() {
+        *x = f32_from_bits_with_nan(next);
+        next = next.wrapping_add(1);
+    }
+}
+
+// Fills a list with pairs of these numbers.
+pub fn fill_pairs(list: &mut [[u32; 2]], fill: u32)
+    ensures len { length list.new ≡ length list.old }
+    ensures each { (d : List ℕ) (k : ℕ) → k < length list.old → slice_index_or list.new k d ≡ (fill + 2 * k) % 2 ^ 32 ∷ (fill + 2 * k + 1) % 2 ^ 32 ∷ [] }
+{
+    let mut next = fill;
+    for pair in list.iter_mut() {
+        *pair = [next, next.wrapping_add(1)];
+        next = next.wrapping_add(2);
+    }
+}
+
 // So many numbers from `fill` on.
 pub fn numbers(alloc: Global, n: u32, fill: u32) -> Result<Vec<u32>, AllocError> {
-    (0..n).map(|i| fill.wrapping_add(i)).collect(alloc)
+    let mut list = vec![in alloc; 0; n as usize]?;
+    fill_numbers(&mut list, fill);
+    Ok(list)
 }
 
 // The floats of so many patterns from `fill` on.
 fn floats(alloc: Global, n: u32, fill: u32) -> Result<Vec<f32>, AllocError> {
-    (0..n)
-        .map(|i| f32_from_bits_with_nan(fill.wrapping_add(i)))
-        .collect(alloc)
+    let mut list = vec![in alloc; 0.0; n as usize]?;
+    fill_floats(&mut list, fill);
+    Ok(list)
 }
 
 // So many pairs of numbers from `fill` on.
 pub fn pairs(alloc: Global, n: u32, fill: u32) -> Result<Vec<[u32; 2]>, AllocError> {
-    (0..n)
-        .map(|i| {
-            let first = fill.wrapping_add(i.wrapping_mul(2));
-            [first, first.wrapping_add(1)]
-        })
-        .collect(alloc)
+    let mut list = vec![in alloc; [0; 2]; n as usize]?;
+    fill_pairs(&mut list, fill);
+    Ok(list)
 }
 
 // Each list after its letter.
 impl fmt::Display for OwnedMesh {
     fn fmt<W: fmt::Write>(&self, f: &mut fmt::Formatter<W>) -> fmt::Result {
         write!(f, " o{}", Listed(&self.offsets))?;
-        write!(f, " c{} x", Listed(&self.corners))?;
-        for x in &self.coords {
-            write!(f, " {}", Float(*x))?;
-        }
-        Ok(())
+        write!(f, " c{}", Listed(&self.corners))?;
+        write!(f, " x{}", Listed(&self.coords))
     }
 }

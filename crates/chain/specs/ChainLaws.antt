@@ -12,9 +12,10 @@ use Rattle.steps.specs.Steps.{Mesh, Room, Masks, mesh, room, step_on}
 use Rattle.steps.specs.StepLaws.{Written, step-written}
 use Rattle.steps.specs.declared.Step.{Step}
 use Rattle.chain.specs.Trail.{Trail, row_of, lastly, onward, trail}
-use Rattle.chain.specs.Chained.{front, Within, Ready, from_answer, Chained}
+use Rattle.chain.specs.Chained.{extent_of, front, Spans, Within, Ready, from_answer, Chained}
 use Rattle.chain.specs.declared.Row.{Row}
 use Rattle.chain.specs.declared.Ran.{Ran}
+use Rattle.chain.specs.declared.Extent.{Extent}
 
 -- ---- what lies at the front of a list that was written over
 
@@ -38,6 +39,11 @@ last_end k (f ∷ fs) rest = let e = last_end (k + length f) fs rest in let a = 
 pub last-offset : (fs : List (List ℕ)) (old : List ℕ) → get_or (over (offsets_of fs) old) (length fs) 0 ≡ length (flat fs)
 unfolding offsets_of
 last-offset fs old = last_end 0 fs (drop (length (offsets_of fs)) old) ∙ omega arith
+
+-- ---- how much of a work mesh a mesh with some counts is
+
+pub spans : {c : Counts} {e : Extent} {w : Mesh} → e ≡ extent_of c w.offsets → Within c w → Spans e w
+spans e h = rw e (record { offsets = omega (arith, h.offsets); corners = h.corners; coords = h.coords })
 
 -- ---- a step that is done
 

@@ -9,6 +9,7 @@ use Rattle.steps.specs.declared.Step.{Step}
 use Rattle.chain.specs.Trail.{Trail, Ended}
 use Rattle.chain.specs.declared.Row.{Row}
 use Rattle.chain.specs.declared.Ran.{Ran}
+use Rattle.chain.specs.declared.Extent.{Extent}
 
 -- the row of a step and the counts that it answered
 abbrev pub row_with : Step → Counts → Row
@@ -18,6 +19,20 @@ row_with s c = record { code = code_of s; v = c.v; e = c.e; f = c.f }
 abbrev pub finish_of : Answer → Step → ℕ → List Row → Ran
 finish_of (Ok c) s k rows = record { answer = Done c; rows = set rows k (row_with s c); done = k + 1 }
 finish_of (Err r) s k rows = record { answer = Refused r.number r.place (k + 1); rows = rows; done = k }
+
+-- how much of a work mesh with these offsets is the mesh with these counts at its front; its corners are as many as its last offset says
+abbrev pub extent_of : Counts → List ℕ → Extent
+extent_of c o = record { offsets = c.f + 1; corners = get_or o c.f 0; coords = 3 * c.v }
+
+-- the mesh of this extent at the front of a work mesh
+abbrev pub front_at : Extent → Mesh → Mesh
+front_at e w = mesh (take e.offsets w.offsets) (take e.corners w.corners) (take e.coords w.coords)
+
+-- the work mesh holds it
+pub record Spans (e : Extent) (w : Mesh) : Type 0 where
+  pub offsets : e.offsets ≤ length w.offsets
+  pub corners : e.corners ≤ length w.corners
+  pub coords : e.coords ≤ length w.coords
 
 -- the mesh with these counts at the front of a work mesh; its corners are as many as its last offset says
 abbrev pub front : Counts → Mesh → Mesh

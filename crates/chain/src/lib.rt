@@ -6,7 +6,7 @@ ghost use Rattle.std.specs.Prelude.{◌≡◌, ◌+◌, ◌<◌, ◌∷◌, leng
 ghost use Rattle.steps.specs.Steps.{masks, step_on};
 ghost use Rattle.chain.specs.Lent.{shown, held, space, IsKept, AreKept};
 ghost use Rattle.chain.specs.Trail.{lastly, trail};
-ghost use Rattle.chain.specs.Chained.{row_with, finish_of, front, Within, Ready, from_answer, Chained};
+ghost use Rattle.chain.specs.Chained.{row_with, finish_of, extent_of, front, front_at, Spans, Within, Ready, from_answer, Chained};
 
 use engine::{Counts, Stop};
 use mesh::{Mesh, MeshMut};
@@ -30,6 +30,14 @@ pub struct Ran {
     pub done: usize,
 }
 
+// How many offsets, corners and coordinates of a work mesh are the mesh at its front.
+#[derive(Clone, Copy)]
+pub struct Extent {
+    pub offsets: usize,
+    pub corners: usize,
+    pub coords: usize,
+}
+
 // The row of a step and the counts of what it made.
 fn row_of(s: Step, c: Counts) -> Row
     ensures { result ≡ row_with s c }
@@ -43,7 +51,7 @@ fn row_of(s: Step, c: Counts) -> Row
 }
 
 // A step has answered, after k that are done: its row, or where it was refused.
-fn finish(made: Result<Counts, Stop>, s: Step, k: usize, mut rows: [Row; 16]) -> Ran
+pub fn finish(made: Result<Counts, Stop>, s: Step, k: usize, mut rows: [Row; 16]) -> Ran
     requires { k < 16 }
     ensures { result ≡ finish_of made s k rows }
 {
@@ -86,17 +94,70 @@ pub fn step(
     finish(made, s, k, rows)
 }
 
-// The mesh with these counts at the front of a work mesh: its last offset is the number of its corners.
-fn front<'a>(room: &'a MeshMut<'_>, c: Counts) -> Mesh<'a>
-    requires { Within c (held room.now) }
-    ensures { shown result ≡ front c (held room.now) }
+// The extent of a mesh with these counts in a work mesh with these offsets: its last offset is the number of its corners.
+pub fn extent_of(c: Counts, offsets: &[u32]) -> Extent
+    requires { c.f < length offsets.now }
+    ensures { result ≡ extent_of c offsets.now }
 {
     let f = c.f as usize;
-    Mesh {
-        offsets: &room.offsets[..f + 1],
-        corners: &room.corners[..room.offsets[f] as usize],
-        coords: &room.coords[..3 * c.v as usize],
+    Extent {
+        offsets: f + 1,
+        corners: offsets[f] as usize,
+        coords: 3 * c.v as usize,
     }
+}
+
+// The same of a work mesh that holds it at its front.
+fn extent_in(c: Counts, room: &MeshMut<'_>) -> Extent
+    requires { Within c (held room.now) }
+    ensures { result ≡ extent_of c (held room.now).offsets }
+{
+    extent_of(c, room.offsets)
+}
+
+// The mesh of this extent at the front of a work mesh.
+fn front<'a>(room: &'a MeshMut<'_>, e: Extent) -> Mesh<'a>
+    requires { Spans e (held room.now) }
+    ensures { shown result ≡ front_at e (held room.now) }
+{
+    Mesh {
+        offsets: &room.offsets[..e.offsets],
+        corners: &room.corners[..e.corners],
+        coords: &room.coords[..e.coords],
+    }
+}
+
+// A step and the rest, after k that are done, on the mesh of this extent at the front of the work mesh a: each step writes the other work
+// mesh, and the last one the output.
+pub fn chain_on(
+    e: Extent,
+    k: usize,
+    rows: [Row; 16],
+    s: Step,
+    rest: &[Step],
+    mask: Mask,
+    arities: &[u32],
+    numbers: &[u32],
+    a: &mut MeshMut<'_>,
+    b: &mut MeshMut<'_>,
+    out: &mut MeshMut<'_>,
+) -> Ran
+    requires most { k + length rest.now < 16 }
+    requires within { Spans e (held a.old) }
+    ensures chained { Chained (trail (masks mask arities.now numbers.now) (s ∷ rest.now) (k + 1) (front_at e (held a.old)) (space b.old) (space a.old) (space out.old)) k rows result (held out.old) (held out.new) }
+    ensures kept { AreKept a.old b.old out.old a.new b.new out.new }
+{
+    let mesh = front(a, e);
+    let Some((next, rest)) = rest.split_first() else {
+        return step(s, k, rows, mask, arities, numbers, mesh, out);
+    };
+    let ran = step(s, k, rows, mask, arities, numbers, mesh, b);
+    let Ok(counts) = ran.answer else {
+        return ran;
+    };
+    let e = extent_in(counts, b);
+    let (k, rows) = (ran.done, ran.rows);
+    chain_on(e, k, rows, *next, rest, mask, arities, numbers, b, a, out)
 }
 
 // A step and the rest, after what came of those before them, whose mesh is at the front of the work mesh a: each step writes the other
@@ -119,10 +180,7 @@ pub fn chain(
     let Ok(counts) = ran.answer else {
         return ran;
     };
-    let mesh = front(a, counts);
-    let Some((next, rest)) = rest.split_first() else {
-        return step(s, ran.done, ran.rows, mask, arities, numbers, mesh, out);
-    };
-    let ran = step(s, ran.done, ran.rows, mask, arities, numbers, mesh, b);
-    chain(ran, *next, rest, mask, arities, numbers, b, a, out)
+    let e = extent_in(counts, a);
+    let (k, rows) = (ran.done, ran.rows);
+    chain_on(e, k, rows, s, rest, mask, arities, numbers, a, b, out)
 }

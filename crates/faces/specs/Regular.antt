@@ -1,8 +1,8 @@
 -- A regular face: its longest side over its shortest, minus 1, in absolute value under 0.1. Definitions and laws.
-use Rattle.std.specs.Prelude.{◌≡◌, refl, ℕ, zero, suc, ◌+◌, ◌*◌, ℤ, Bool, true, false, cond, List, length, Float}
+use Rattle.std.specs.Prelude.{◌≡◌, refl, ℕ, zero, suc, ◌+◌, ℤ, Bool, true, false, cond, List, length, Float}
 use Rattle.std.proofs.Common.{sym, ◌∙◌, arith, le-ltb, ltb-false, lt-ltb}
 use Rattle.std.specs.Float.{binary32, float_with_sign, nan, inf, fin}
-use Rattle.std.specs.Float.Ieee.{of_bits, lt, neg, up}
+use Rattle.std.specs.Float.Ieee.{of_bits, lt, neg}
 use Rattle.std.specs.Float.Ieee.Fits.{down_pos}
 use Rattle.faces.specs.declared.Sides.{Sides}
 use Rattle.point.specs.Vector.{◌-ᶠ◌, ◌/ᶠ◌, one_f, sub_p, mag_p}

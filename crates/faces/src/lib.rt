@@ -5,7 +5,7 @@
 ghost use Rattle.std.specs.Prelude.{◌≡◌, ◌+◌, ◌*◌, ◌<◌, ◌≤◌, length};
 ghost use Rattle.faces.specs.Face.{point_at, put_at, InReach, centroid_of};
 ghost use Rattle.faces.specs.Normal.{taken, round_at, corner_normal, tally_to, average_normal_of};
-ghost use Rattle.faces.specs.Regular.{side_of, widened, sides_to, even, regular_of};
+ghost use Rattle.faces.specs.Regular.{side_of, widened, sides_to, abs_f, even, regular_of};
 
 use point::{Point, orthogonal};
 
@@ -66,6 +66,13 @@ impl Tally {
     }
 }
 
+// Without its sign, but for a zero.
+pub fn abs_of(d: f32) -> f32
+    ensures { result ≡ abs_f d }
+{
+    if d < 0.0 { -d } else { d }
+}
+
 // The longest side and the shortest of some.
 #[derive(Clone, Copy)]
 pub struct Sides {
@@ -85,11 +92,11 @@ impl Sides {
     }
 
     // Whether the longest is about as long as the shortest.
-    #[tactic(auto, using(crate::specs::Regular::abs_under), unfolding(crate::specs::Regular::even))]
+    #[tactic(auto, unfolding(crate::specs::Regular::even))]
     pub fn are_even(self) -> bool
         ensures { result ≡ even self }
     {
-        (self.long / self.short - 1.0).abs() < 0.1
+        abs_of(self.long / self.short - 1.0) < 0.1
     }
 }
 

@@ -1,5 +1,5 @@
 -- Laws of a step of a trail that is done: the counts it has and the mesh it leaves, that no proof of their crate calls. Assumes nothing.
-use Rattle.std.specs.Prelude.{◌≡◌, refl, List, ℕ, ◌+◌, ◌*◌, ◌<◌, ◌≤◌, length, get_or, take, drop, Float}
+use Rattle.std.specs.Prelude.{◌≡◌, refl, List, ℕ, ◌+◌, ◌<◌, ◌≤◌, length, get_or, take, drop, Float}
 use Rattle.std.proofs.Common.{sym, ◌∙◌, ap, arith, length-append, length-drop, take_at}
 use Rattle.slices.specs.Lists.{over}
 use Rattle.rule.specs.Flat.{flat, offsets_of, length-offsets}
@@ -9,21 +9,13 @@ use Rattle.engine.specs.Answer.{Answer, Done}
 use Rattle.steps.specs.Steps.{Mesh, Room, Masks, mesh, room, step_on}
 use Rattle.steps.specs.StepLaws.{Written, step-written}
 use Rattle.steps.specs.declared.Step.{Step}
-use Rattle.chain.specs.Chained.{front, Ready}
+use Rattle.chain.specs.Chained.{extent_of, front, Ready}
 use Rattle.chain.specs.ChainLaws.{last-offset, Left}
+use Rattle.chain.specs.declared.Extent.{Extent}
 
 -- ---- how much of a work mesh is the mesh that lies at its front
 
-pub record Extent : Type 0 where
-  pub offsets : ℕ
-  pub corners : ℕ
-  pub coords : ℕ
-
--- its corners are as many as its last offset says
-abbrev pub extent_of : Counts → List ℕ → Extent
-extent_of c o = record { offsets = c.f + 1; corners = get_or o c.f 0; coords = 3 * c.v }
-
--- that mesh
+-- the same mesh, by the extent of its counts
 pub front-extent : (c : Counts) (w : Mesh) (e : Extent) → e ≡ extent_of c w.offsets → front c w ≡ mesh (take e.offsets w.offsets) (take e.corners w.corners) (take e.coords w.coords)
 front-extent c w e h = sym (ap (λ (e : Extent). mesh (take e.offsets w.offsets) (take e.corners w.corners) (take e.coords w.coords)) h)
 

@@ -10,15 +10,20 @@ use Rattle.engine.specs.Answer.{Answer, Done, Refused}
 use Rattle.steps.specs.Steps.{Mesh, Room, Masks, mesh, room, step_on}
 use Rattle.steps.specs.declared.Step.{Step}
 use Rattle.chain.specs.Trail.{Trail, row_of, lastly, onward, trail}
-use Rattle.chain.specs.Chained.{row_with, finish_of, front, Ready, Chained}
+use Rattle.chain.specs.Chained.{row_with, finish_of, extent_of, front, front_at, Spans, Ready, Chained}
+use Rattle.chain.specs.ChainLaws.{spans}
 use Rattle.chain.specs.declared.Row.{Row}
 use Rattle.chain.specs.declared.Ran.{Ran}
+use Rattle.chain.specs.declared.Extent.{Extent}
 use Rattle.laws.specs.ChainNext.{Next, went}
 
 -- the steps after one that is done can be done
 pub ready_on :
     {q : Outcome} {c : Counts} {o k o' k' : List ℕ} {x x' : List Float} (n i : ℕ) → Next q c o k x o' k' x' → i < n → n ≤ 16 → Ready (n - (i + 1)) i c (mesh o' k' x')
 ready_on n i y l m = rw y.counts (record { most = omega arith; within = y.left.within })
+
+pub spans_on : {q : Outcome} {c : Counts} {o k o' k' : List ℕ} {x x' : List Float} (e : Extent) → Next q c o k x o' k' x' → e ≡ extent_of c o' → Spans e (mesh o' k' x')
+spans_on {o' = o'} e y u = spans (u ∙ ap (λ (c : Counts). extent_of c o') y.counts) y.left.within
 
 -- ---- one step of a trail
 
@@ -140,3 +145,11 @@ module _ (m : Masks) (steps : List Step) (n k : ℕ) (d : Step) (w : Mesh) (most
         ∙ ap₂ (λ (v : Mesh) (b : Room). trail m (rest (k + 1)) (k + 1 + 1) v a b z) y.left.is y.left.room in
         rw (trail_more (room bo bc bx) a z l ne, y.outcome)
         (on-by S k rows fs xs go more (subst (λ (t : Trail). Chained t (k + 1) ran.rows r (mesh o c x) (mesh o' c' x')) t h))
+
+    -- the same, by the extent of its mesh
+    pub chained-extent :
+        {made : Answer} (cs : Counts) (e : Extent) (ran : Ran) {r : Ran} {bo' bc' o c o' c' : List ℕ} {bx' x x' : List Float} →
+        Came q bo bc bx made bo' bc' bx' → made ≡ Done cs → e ≡ extent_of cs bo' → ran ≡ finish_of made S k rows →
+        Chained (trail m (rest (k + 1)) (k + 1 + 1) (front_at e (mesh bo' bc' bx')) a (room bo' bc' bx') z) (k + 1) ran.rows r (mesh o c x) (mesh o' c' x') →
+        Chained (trail m (rest k) (k + 1) w (room bo bc bx) a z) k rows r (mesh o c x) (mesh o' c' x')
+    chained-extent cs e ran g f u v h = chained-on cs ran g f v (rw u at h)

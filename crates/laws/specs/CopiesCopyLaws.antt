@@ -1,17 +1,19 @@
--- Laws of copies that no proof of its crate calls: what a copy leaves known, and what a refused one comes to, by the verdict alone. Assumes nothing.
-use Rattle.std.specs.Prelude.{◌≡◌, refl, Ok, Err, List, [], ℕ, length, Float}
-use Rattle.std.proofs.Common.{sym, ◌∙◌, ap, ap₂}
+-- Laws of copies that no proof of its crate calls: what a copy leaves known, and what it comes to, by the verdict alone. Assumes nothing.
+use Rattle.std.specs.Prelude.{◌≡◌, refl, Ok, Err, List, [], ℕ, ◌-◌, ◌/◌, length, Float}
+use Rattle.std.proofs.Common.{sym, ◌∙◌, ap, ap₂, arith}
+use Rattle.std.proofs.lemmas.List.Edits.{sets}
+use Rattle.slices.specs.Lists.{sets_over}
 use Rattle.mesh.specs.Mesh.{faces, faces_of}
 use Rattle.mesh.specs.Tests.{verdict, and_then, both-good, passed, pass, clear, size_tests, face_tests}
 use Rattle.mesh.specs.Shape.{size-good}
 use Rattle.mesh.specs.Verdict.{Verdict, Good, Bad}
 use Rattle.rule.specs.Flat.{flat}
-use Rattle.engine.specs.Answer.{Answer}
+use Rattle.engine.specs.Answer.{Answer, Done}
 use Rattle.engine.specs.Result.{Outcome, outcome, outcome_of, table, asked, room_tests, finite_tests, Came}
 use Rattle.engine.specs.ResultLaws.{by-groups, room-good}
 use Rattle.engine.specs.declared.Asks.TheVariants.{Open}
 use Rattle.copies.specs.Copy.{copy_outcome}
-use Rattle.copies.specs.CopyLaws.{copy_verdict, Copied as CopiedOf, flat-own, count-own}
+use Rattle.copies.specs.CopyLaws.{copy_verdict, Copied as CopiedOf, flat-own, offsets-own, count-own}
 use Rattle.laws.specs.EngineKnown.{refusal_of}
 
 finite-known : (o k : List ℕ) (x : List Float) → verdict (face_tests o k x) ≡ Good → Good ≡ verdict (finite_tests x)
@@ -74,3 +76,18 @@ module _ (o k : List ℕ) (x : List Float) (oo oc : List ℕ) (ox : List Float) 
 
   pub copy-refused : (v : Verdict) {n p : ℕ} (r : Answer) → v ≡ J → v ≡ Bad n p → r ≡ refusal_of v → Came Q oo oc ox r oo oc ox
   copy-refused v {n} {p} r e b a = rw (outcome-is v e, b) (record { answer = a ∙ ap refusal_of b; offsets = refl; corners = refl; coords = refl })
+
+  pub copy_done :
+      (v : Verdict) (r : Answer) (o' k' : List ℕ) (x' : List Float) → v ≡ J → v ≡ Good →
+      r ≡ Done (record { v = length x / 3; e = length k / 2; f = length o - 1 }) →
+      o' ≡ sets oo 0 o → k' ≡ sets oc 0 k → x' ≡ sets ox 0 x → Came Q oo oc ox r o' k' x'
+  copy_done v r o' k' x' e g a b c d =
+      let w = copied-by o k x (length oo) (length oc) (length ox) v e g in
+      let s = w.shaped in
+      let f = w.room in
+      rw (outcome-is v e, g) (record {
+        answer = rw (count-own o k s, flat-own o k s) a;
+        offsets = rw (offsets-own o k s) (b ∙ sets_over oo o (omega (arith, s.some, f.faces-fit)));
+        corners = rw (flat-own o k s) (c ∙ sets_over oc k f.corners-fit);
+        coords = d ∙ sets_over ox x f.coords-fit;
+      })

@@ -15,7 +15,7 @@ mod surface;
 mod twice;
 
 use surface::face_count;
-pub use surface::{Faces, face_of, ordered, turned};
+pub use surface::{Faces, face_after, face_of, next_in, ordered, prev_in, turned};
 
 // The rows of the refusal table, each by its number.
 #[derive(Clone, Copy)]

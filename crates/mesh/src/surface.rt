@@ -70,12 +70,7 @@ impl<'a> Faces<'a> {
         requires { In self.offsets.now f c }
         ensures { result ≡ next_in self.entry.offsets.now f c }
     {
-        let end = self.offsets[f + 1] as usize;
-        if c + 1 < end {
-            c + 1
-        } else {
-            self.offsets[f] as usize
-        }
+        next_in(self.offsets, f, c)
     }
 
     // The corner before `c` round face `f`.
@@ -83,11 +78,7 @@ impl<'a> Faces<'a> {
         requires { In self.offsets.now f c }
         ensures { result ≡ prev_in self.entry.offsets.now f c }
     {
-        if (self.offsets[f] as usize) < c {
-            c - 1
-        } else {
-            self.offsets[f + 1] as usize - 1
-        }
+        prev_in(self.offsets, f, c)
     }
 
     // The face of corner `c + 1`, where `c` is of face `f`.
@@ -95,8 +86,7 @@ impl<'a> Faces<'a> {
         requires { In self.offsets.now f c }
         ensures { result ≡ face_after self.entry.offsets.now f c }
     {
-        let end = self.offsets[f + 1] as usize;
-        if c + 1 < end { f } else { f + 1 }
+        face_after(self.offsets, f, c)
     }
 
     // The directed edge that starts at corner `c`, which is of face `f`.
@@ -294,6 +284,40 @@ pub fn face_count(offsets: &[u32]) -> usize
     ensures { result ≡ faces offsets.now }
 {
     offsets.len().saturating_sub(1)
+}
+
+// The corner after `c` round face `f`.
+pub fn next_in(offsets: &[u32], f: usize, c: usize) -> usize
+    requires { In offsets.now f c }
+    ensures { result ≡ next_in offsets.now f c }
+{
+    let end = offsets[f + 1] as usize;
+    if c + 1 < end {
+        c + 1
+    } else {
+        offsets[f] as usize
+    }
+}
+
+// The corner before `c` round face `f`.
+pub fn prev_in(offsets: &[u32], f: usize, c: usize) -> usize
+    requires { In offsets.now f c }
+    ensures { result ≡ prev_in offsets.now f c }
+{
+    if (offsets[f] as usize) < c {
+        c - 1
+    } else {
+        offsets[f + 1] as usize - 1
+    }
+}
+
+// The face of corner `c + 1`, where `c` is of face `f`.
+pub fn face_after(offsets: &[u32], f: usize, c: usize) -> usize
+    requires { In offsets.now f c }
+    ensures { result ≡ face_after offsets.now f c }
+{
+    let end = offsets[f + 1] as usize;
+    if c + 1 < end { f } else { f + 1 }
 }
 
 // Turned round.

@@ -9,7 +9,7 @@ ghost use Rattle.mesh.specs.Twice.{Inside, Unmarked, again, in_window};
 fn seen_at(run: &[u32]) -> Option<usize>
     ensures { result ≡ lowest (seen run.now) (length run.now) }
 {
-    slices::lowest(run.len(), |i| run[..i].contains(&run[i]))
+    slices::lowest(run.len(), |i| slices::find(run, run[i], i) < i)
 }
 
 // Whether vertex `v` is one of the `width` vertices from `low` on.

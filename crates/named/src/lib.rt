@@ -25,7 +25,7 @@ pub enum NamedList {
 }
 
 // The steps of a list: the first `count` of these.
-#[derive(Drop)]
+#[derive(Clone, Drop)]
 pub struct Steps {
     steps: [Step; 6],
     count: usize,

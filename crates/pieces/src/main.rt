@@ -3,6 +3,7 @@
 #![tactic(auto)]
 
 use cases::answers::Checked;
+use cases::lenient::Dropping;
 use cases::shapes::{PILLOW, T, TRIANGLE, TWO_T};
 use mesh::Mesh;
 use std::io;
@@ -92,13 +93,14 @@ fn coords_wrong(rt: &impl Print) -> io::Result<()> {
 // ---- 2: the limit passes, one more does not
 
 fn many_faces(rt: &impl Print) -> io::Result<()> {
+    let offsets = [0u32; 60_002];
     let most = Mesh {
-        offsets: &[0; 60_001],
+        offsets: &offsets[..60_001],
         corners: &[],
         ..T
     };
     let over = Mesh {
-        offsets: &[0; 60_002],
+        offsets: &offsets,
         corners: &[],
         ..T
     };
@@ -107,14 +109,15 @@ fn many_faces(rt: &impl Print) -> io::Result<()> {
 }
 
 fn many_corners(rt: &impl Print) -> io::Result<()> {
+    let corners = [0u32; 60_001];
     let most = Mesh {
         offsets: &[0, 60_000],
-        corners: &[0; 60_000],
+        corners: &corners[..60_000],
         ..T
     };
     let over = Mesh {
         offsets: &[0, 60_001],
-        corners: &[0; 60_001],
+        corners: &corners,
         ..T
     };
     let wrong = Mesh {
@@ -127,17 +130,19 @@ fn many_corners(rt: &impl Print) -> io::Result<()> {
 }
 
 fn many_positions(rt: &impl Print) -> io::Result<()> {
+    let coords = [0.0f32; 180_003];
+    let corners = [0u32; 60_001];
     let most = Mesh {
-        coords: &[0.0; 180_000],
+        coords: &coords[..180_000],
         ..EMPTY
     };
     let over = Mesh {
-        coords: &[0.0; 180_003],
+        coords: &coords,
         ..EMPTY
     };
     let both = Mesh {
         offsets: &[0, 60_001],
-        corners: &[0; 60_001],
+        corners: &corners,
         ..over
     };
     closed(rt, "60000 positions", most)?;
@@ -324,6 +329,7 @@ fn surfaces(rt: &impl Print) -> io::Result<()> {
 }
 
 fn main(rt: HostRuntime) -> io::Result<()> {
+    let rt = Dropping(&rt);
     sizes(&rt)?;
     surfaces(&rt)?;
     pillow(&rt)?;

@@ -2,6 +2,7 @@
 
 use cases::case::Case;
 use cases::owned::pairs;
+use cases::text::{Listed, Parted};
 use mesh::Refusal;
 use std::alloc::Global;
 use std::fmt::Display;
@@ -15,8 +16,8 @@ struct EdgesAnswer(Result<u32, Refusal>);
 impl Display for EdgesAnswer {
     fn fmt<W: fmt::Write>(&self, f: &mut fmt::Formatter<W>) -> fmt::Result {
         match self.0 {
-            Ok(edges) => write!(f, "0 0 {edges}"),
-            Err(why) => write!(f, "{} {} 0", why.number, why.place),
+            Ok(edges) => Parted(&[0, 0, edges]).fmt(f),
+            Err(why) => Parted(&[why.number, why.place, 0]).fmt(f),
         }
     }
 }
@@ -26,9 +27,5 @@ pub fn write_edges<W: Write>(case: &Case, alloc: Global, out: &mut W) -> io::Res
     let Case { header, mesh, .. } = case;
     let mut lent = pairs(alloc, header.rooms.offsets, header.fill)?;
     let listing = edges::to_edges(mesh.as_mesh(), &mut lent);
-    write!(out, "{} e", EdgesAnswer(listing))?;
-    for [a, b] in &lent {
-        write!(out, " {a}-{b}")?;
-    }
-    Ok(())
+    write!(out, "{} e{}", EdgesAnswer(listing), Listed(&lent))
 }

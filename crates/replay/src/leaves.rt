@@ -3,10 +3,13 @@
 ghost use Rattle.std.specs.Prelude.{◌↔◌, IsTrue};
 ghost use Rattle.faces.specs.Face.{InReach};
 
-use cases::text::Floats;
+use cases::text::{Bits, Floats, Listed, Parted};
 use faces::Run;
 use std::io;
 use std::io::Write;
+
+// How many roots are taken before they are written.
+const ROOTS: usize = 32;
 
 // The most corners of a face that these functions take.
 const MOST_CORNERS: usize = 60_000;
@@ -18,12 +21,19 @@ pub enum Leaf {
     IsRegular,
 }
 
-// The root of each pattern.
+// The root of each pattern, some at a time.
 pub fn write_roots<W: Write>(bits: &[u32], out: &mut W) -> io::Result<()> {
-    let mut gap = "";
-    for b in bits {
-        write!(out, "{gap}{:08x}", root::root_bits(*b))?;
-        gap = " ";
+    let Some((first, rest)) = bits.split_first() else {
+        return Ok(());
+    };
+    write!(out, "{}", Parted(&[Bits(root::root_bits(*first))]))?;
+    for some in rest.chunks(ROOTS) {
+        let mut roots = [Bits(0); ROOTS];
+        for (root, b) in roots.iter_mut().zip(some) {
+            *root = Bits(root::root_bits(*b));
+        }
+        let n = some.len().min(ROOTS);
+        write!(out, "{}", Listed(&roots[..n]))?;
     }
     Ok(())
 }

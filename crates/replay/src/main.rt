@@ -40,13 +40,14 @@ impl Player for Replay {
     fn play<R: Read, W: Write>(
         &self,
         input: &mut R,
+        case: &mut Case,
         alloc: Global,
         out: &mut W,
     ) -> Result<(), Fault> {
         let header = Header::read(input)?;
         let code = Code::try_from(header.code)?;
-        let case = Case::read_lists(input, alloc, header)?;
-        answer(code, &case, alloc, out)?;
+        case.read_lists(input, header)?;
+        answer(code, case, alloc, out)?;
         Ok(())
     }
 }

@@ -2,7 +2,7 @@
 
 use cases::header::Header;
 use cases::owned::OwnedMesh;
-use cases::text::Float;
+use cases::text::{Float, Parted};
 use mesh::Refusal;
 use panel::Held;
 use std::alloc::Global;
@@ -29,9 +29,9 @@ impl Display for FileAnswer {
         match self.0 {
             Ok(held) => {
                 let (steps, positions) = (held.steps, held.positions);
-                write!(f, "0 0 {steps} {positions} {} {}", held.faces, held.corners)
+                Parted(&[0, 0, steps, positions, held.faces, held.corners]).fmt(f)
             }
-            Err(why) => write!(f, "{} {} 0 0 0 0", why.number, why.place),
+            Err(why) => Parted(&[why.number, why.place, 0, 0, 0, 0]).fmt(f),
         }
     }
 }

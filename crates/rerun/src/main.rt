@@ -11,11 +11,10 @@ ghost use Rattle.runs.specs.More.{Fits};
 use call::Call;
 use cases::case::Case;
 use cases::fault::Fault;
-use cases::header::Header;
 use cases::playing::{Player, play_all};
 use files::{read_file, write_file};
 use runs::calls::{write_list, write_recipe};
-use runs::more::More;
+use runs::more::read_header;
 use runs::reading::read_steps;
 use std::alloc::Global;
 use std::io;
@@ -27,18 +26,18 @@ impl Player for Rerun {
     fn play<R: Read, W: Write>(
         &self,
         input: &mut R,
+        case: &mut Case,
         alloc: Global,
         out: &mut W,
     ) -> Result<(), Fault> {
-        let header = Header::read(input)?;
-        let more = More::read(input)?;
+        let (header, more) = read_header(input)?;
         let call = Call::try_from(&header)?;
-        let case = Case::read_lists(input, alloc, header)?;
+        case.read_lists(input, header)?;
         let steps = read_steps(input, alloc, more.steps)?;
         let file = read_file(input, alloc, more.bytes)?;
         match call {
-            Call::List(list) => write_list(list, &case, &more, alloc, out)?,
-            Call::Recipe => write_recipe(&steps, &case, &more, alloc, out)?,
+            Call::List(list) => write_list(list, case, &more, alloc, out)?,
+            Call::Recipe => write_recipe(&steps, case, &more, alloc, out)?,
             Call::File => write_file(&file, &case.header, alloc, out)?,
         }
         Ok(())

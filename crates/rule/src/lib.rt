@@ -11,10 +11,10 @@ mod output;
 mod rings;
 mod triangles;
 
-pub use numbering::Numbering;
+pub use numbering::{Numbering, step};
 pub use output::Output;
 pub use rings::{put_backward, put_face, put_inner, put_outer, put_splits, put_up};
-pub use triangles::put_cut;
+pub use triangles::{cut_of, diagonal_of, put_cut, put_triangle, put_triangles, triangle_at};
 
 // Where a slot of a rule looks from a corner.
 #[derive(Clone, Copy)]

@@ -1,6 +1,8 @@
 // The vertices of a result by number: which one a slot names at a corner.
 
+ghost use Rattle.std.specs.Prelude.{◌≡◌, ◌<◌, length};
 ghost use Rattle.mesh.specs.Edges.{Sound};
+ghost use Rattle.rule.specs.Rule.{moved, named_at};
 ghost use Rattle.rule.specs.Slots.{Fit};
 
 use crate::{Bases, Kind, Move, Slot};
@@ -15,10 +17,27 @@ pub struct Numbering<'a> {
     ghost fit: { Fit bases },
 }
 
+// The corner that a move comes to.
+pub fn step(v: Move, c: usize, offsets: &[u32], corners: &[u32]) -> usize
+    requires sound { Sound offsets.now corners.now }
+    requires c_in_bounds { c < length corners.now }
+    ensures { result ≡ moved offsets.now corners.now v c }
+{
+    match v {
+        Move::Here => c,
+        Move::Next => mesh::next_of(offsets, corners, c),
+        Move::Prev => mesh::prev_of(offsets, corners, c),
+        Move::Mate => mesh::mate_of(offsets, corners, c),
+        Move::MateNext => {
+            let d = mesh::mate_of(offsets, corners, c);
+            mesh::next_of(offsets, corners, d)
+        }
+        Move::Turn => mesh::turn_at(offsets, corners, c),
+    }
+}
+
 impl Numbering<'_> {
-    ghost use Rattle.std.specs.Prelude.{◌≡◌, ◌<◌, length};
     ghost use Rattle.mesh.specs.Mesh.{faces, start, end};
-    ghost use Rattle.rule.specs.Rule.{moved, named_at};
     ghost use Rattle.rule.specs.Faces.{Ends};
     ghost use Rattle.rule.specs.Numbering.{vertices};
 
@@ -27,17 +46,7 @@ impl Numbering<'_> {
         requires { c < length self.corners.now }
         ensures { result ≡ moved self.entry.offsets.now self.entry.corners.now v c }
     {
-        match v {
-            Move::Here => c,
-            Move::Next => mesh::next_of(self.offsets, self.corners, c),
-            Move::Prev => mesh::prev_of(self.offsets, self.corners, c),
-            Move::Mate => mesh::mate_of(self.offsets, self.corners, c),
-            Move::MateNext => {
-                let d = mesh::mate_of(self.offsets, self.corners, c);
-                mesh::next_of(self.offsets, self.corners, d)
-            }
-            Move::Turn => mesh::turn_at(self.offsets, self.corners, c),
-        }
+        step(v, c, self.offsets, self.corners)
     }
 
     // The vertex of one kind at a corner.

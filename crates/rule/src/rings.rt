@@ -3,7 +3,7 @@
 ghost use Rattle.std.specs.Prelude.{cond, [], ◌∷◌, ◌<◌, length};
 ghost use Rattle.mesh.specs.Mesh.{faces, arity};
 ghost use Rattle.mesh.specs.Tests.{faces_at};
-ghost use Rattle.mesh.specs.Edges.{up};
+ghost use Rattle.mesh.specs.Edges.{Faced, up};
 ghost use Rattle.rule.specs.Rule.{made, inner, outer, backward, splits};
 ghost use Rattle.rule.specs.Numbering.{vertices};
 ghost use Rattle.rule.specs.Output.{Put, RoomIn, SpaceIn};
@@ -57,12 +57,16 @@ pub fn put_outer(s: Slot, numbering: Numbering<'_>, u: u32, out: &mut Output<'_>
 }
 
 // Face `f` with its corners in the other order.
-pub fn put_backward(mesh: picks::Ready<'_>, f: usize, out: &mut Output<'_>)
-    requires f_bound { f < faces mesh.offsets.now }
-    requires space { SpaceIn out.old (arity mesh.offsets.now f) }
-    ensures { Put out.old (backward mesh.entry.offsets.now mesh.entry.corners.now f ∷ []) out.new }
+#[tactic(auto, using(picks::specs::Runs::run_within, picks::specs::Runs::run_long))]
+pub fn put_backward(offsets: &[u32], corners: &[u32], f: usize, out: &mut Output<'_>)
+    requires faced { Faced offsets.now corners.now }
+    requires f_bound { f < faces offsets.now }
+    requires space { SpaceIn out.old (arity offsets.now f) }
+    ensures { Put out.old (backward offsets.now corners.now f ∷ []) out.new }
 {
-    let face = mesh.run(f).face;
+    let lo = offsets[f] as usize;
+    let hi = offsets[f + 1] as usize;
+    let face = &corners[lo..hi];
     let n = face.len();
     out.put_ring(n, |j| face[n - 1 - j])
 }

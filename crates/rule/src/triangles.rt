@@ -3,33 +3,36 @@
 ghost use Rattle.std.specs.Prelude.{◌≡◌, [], ◌∷◌, ◌+◌, ◌<◌, ◌≤◌, length};
 ghost use Rattle.mesh.specs.Mesh as Mesh;
 ghost use Rattle.mesh.specs.Mesh.{faces};
+ghost use Rattle.mesh.specs.Edges.{Faced};
+ghost use Rattle.faces.specs.Face.{InReach};
 ghost use Rattle.rule.specs.Rule.{diagonal, cut_of, triangle_of, triangles};
 ghost use Rattle.rule.specs.Triangles.{least};
 ghost use Rattle.rule.specs.Output.{Put, RoomIn, SpaceIn};
 
 use crate::{Cut, Output};
-use faces::Run;
 
 // The squared length of the diagonal between two corners.
 #[tactic(auto, unfolding(crate::specs::Rule::diagonal))]
-fn diagonal_of(run: Run<'_>, i: usize, j: usize) -> f32
-    requires { (i < length run.face.now) × (j < length run.face.now) }
-    ensures { result ≡ diagonal run.entry.coords.now run.entry.face.now i j }
+pub fn diagonal_of(coords: &[f32], face: &[u32], i: usize, j: usize) -> f32
+    requires in_reach { InReach coords.now face.now }
+    requires i_in_bounds { (i < length face.now) × (j < length face.now) }
+    ensures { result ≡ diagonal coords.now face.now i j }
 {
-    let p = faces::point_at(run.coords, run.face[i] as usize);
-    let q = faces::point_at(run.coords, run.face[j] as usize);
+    let p = faces::point_at(coords, face[i] as usize);
+    let q = faces::point_at(coords, face[j] as usize);
     (p - q).mag_sq()
 }
 
 // How a face is cut.
 #[tactic(auto, unfolding(crate::specs::Rule::cut_of))]
-fn cut_of(shorter: bool, run: Run<'_>) -> Cut
-    ensures { result ≡ cut_of shorter run.entry.coords.now run.entry.face.now }
+pub fn cut_of(shorter: bool, coords: &[f32], face: &[u32]) -> Cut
+    requires { InReach coords.now face.now }
+    ensures { result ≡ cut_of shorter coords.now face.now }
 {
-    match run.face.len() {
+    match face.len() {
         4 => {
-            let p = diagonal_of(run, 0, 2);
-            let q = diagonal_of(run, 1, 3);
+            let p = diagonal_of(coords, face, 0, 2);
+            let q = diagonal_of(coords, face, 1, 3);
             if shorter == (p < q) {
                 Cut::Fan
             } else {
@@ -43,7 +46,7 @@ fn cut_of(shorter: bool, run: Run<'_>) -> Cut
 
 // Triangle `j` of a cut.
 #[tactic(auto, unfolding(crate::specs::Rule::triangle_of))]
-fn triangle_at(cut: Cut, face: &[u32], j: usize) -> [u32; 3]
+pub fn triangle_at(cut: Cut, face: &[u32], j: usize) -> [u32; 3]
     requires { (least cut ≤ length face.now) × (j + 2 < length face.now) }
     ensures { result ≡ triangle_of cut face.now j }
 {
@@ -58,7 +61,7 @@ fn triangle_at(cut: Cut, face: &[u32], j: usize) -> [u32; 3]
 }
 
 // A triangle.
-fn put_triangle(t: [u32; 3], out: &mut Output<'_>)
+pub fn put_triangle(t: [u32; 3], out: &mut Output<'_>)
     requires { SpaceIn out.old 3 }
     ensures { Put out.old (t ∷ []) out.new }
 {
@@ -66,22 +69,35 @@ fn put_triangle(t: [u32; 3], out: &mut Output<'_>)
 }
 
 // The triangles of a face.
-fn put_triangles(shorter: bool, run: Run<'_>, out: &mut Output<'_>)
-    requires some { 3 ≤ length run.face.now }
-    requires room { RoomIn out.old (triangles shorter run.coords.now run.face.now) }
-    ensures { Put out.old (triangles shorter run.entry.coords.now run.entry.face.now) out.new }
+pub fn put_triangles(shorter: bool, coords: &[f32], face: &[u32], out: &mut Output<'_>)
+    requires in_reach { InReach coords.now face.now }
+    requires in_bounds { 3 ≤ length face.now }
+    requires room { RoomIn out.old (triangles shorter coords.now face.now) }
+    ensures { Put out.old (triangles shorter coords.now face.now) out.new }
 {
-    let cut = cut_of(shorter, run);
-    for j in 0..run.face.len() - 2 {
-        put_triangle(triangle_at(cut, run.face, j), out);
+    let cut = cut_of(shorter, coords, face);
+    for j in 0..face.len() - 2 {
+        put_triangle(triangle_at(cut, face, j), out);
     }
 }
 
 // The triangles of face `f`.
-pub fn put_cut(shorter: bool, mesh: picks::Ready<'_>, f: usize, out: &mut Output<'_>)
-    requires f_bound { f < faces mesh.offsets.now }
-    requires room { RoomIn out.old (triangles shorter mesh.coords.now (Mesh.run mesh.offsets.now mesh.corners.now f)) }
-    ensures { Put out.old (triangles shorter mesh.entry.coords.now (Mesh.run mesh.entry.offsets.now mesh.entry.corners.now f)) out.new }
+#[tactic(auto, using(picks::specs::Runs::run_within, picks::specs::Runs::run_long, picks::specs::Runs::run_reach))]
+pub fn put_cut(
+    shorter: bool,
+    offsets: &[u32],
+    corners: &[u32],
+    coords: &[f32],
+    f: usize,
+    out: &mut Output<'_>,
+)
+    requires faced { Faced offsets.now corners.now }
+    requires in_reach { InReach coords.now corners.now }
+    requires f_bound { f < faces offsets.now }
+    requires room { RoomIn out.old (triangles shorter coords.now (Mesh.run offsets.now corners.now f)) }
+    ensures { Put out.old (triangles shorter coords.now (Mesh.run offsets.now corners.now f)) out.new }
 {
-    put_triangles(shorter, mesh.run(f), out)
+    let lo = offsets[f] as usize;
+    let hi = offsets[f + 1] as usize;
+    put_triangles(shorter, coords, &corners[lo..hi], out)
 }

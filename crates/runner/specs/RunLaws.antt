@@ -1,5 +1,5 @@
 -- A run from its parts as the code has them, and how many rows it has. Assumes nothing.
-use Rattle.std.specs.Prelude.{◌≡◌, Bool, true, false, cond, List, [], ◌∷◌, ℕ, ◌<◌, ◌≤◌, min, length, take, replicate, ltb}
+use Rattle.std.specs.Prelude.{◌≡◌, Bool, true, false, cond, List, ◌∷◌, ℕ, ◌<◌, ◌≤◌, min, length, take, replicate, ltb}
 use Rattle.std.proofs.Math.Path.{refl}
 use Rattle.std.proofs.Common.{◌∙◌, ap, zero-add, length-take, take_all, le_refl, lt-ltb, le-ltb, ltb-false}
 use native.Mathlib.Omega.{arith}
@@ -44,30 +44,43 @@ module _ (m : Masks) (steps : List Step) (n : ℕ) (w : Mesh) (a b z : Room) whe
   unfolding run_trail
   run-many h e = rw (lt-ltb _ _ h, e) (record { ended = record { answer = refl; offsets = refl; corners = refl; coords = refl }; rows = refl; done = refl })
 
+  -- one step or more
+  pub run-list :
+      n ≤ 16 → {rows : List Row} {r : Ran} {x x' : Mesh} → Chained (trail m (take n steps) 1 w a b z) 0 rows r x x' →
+      Chained (run_trail m steps n w a b z) 0 rows r x x'
+  unfolding run_trail
+  run-list h e = rw (le-ltb _ _ h) e
+
 -- no steps
 no_step : (q : Outcome) → answer_of q ≡ answer_at 0 q
 no_step (refused n p) = refl
 no_step (result fs xs) = refl
 
 pub run_none :
-    (m : Masks) (steps : List Step) (w : Mesh) (a b : Room) {rows : List Row} {made : Answer} {r : Ran} {z z' : Mesh} → length steps ≡ 0 →
-    Came (copy_outcome w.offsets w.corners w.coords (length z.offsets) (length z.corners) (length z.coords)) z.offsets z.corners z.coords made z'.offsets z'.corners z'.coords →
-    r ≡ record { answer = made; rows = rows; done = 0 } → Chained (run_trail m steps (length steps) w a b (room z.offsets z.corners z.coords)) 0 rows r z z'
-unfolding run_trail trail
-run_none m [] w a b {z = z} h g e =
-    rw e (record {
+    (m : Masks) (steps : List Step) (n : ℕ) (w : Mesh) (a b : Room) (rows : List Row) {r : Answer} {z z' : Mesh} → n ≤ 16 → n ≡ 0 →
+    Came (copy_outcome w.offsets w.corners w.coords (length z.offsets) (length z.corners) (length z.coords)) z.offsets z.corners z.coords r z'.offsets z'.corners z'.coords →
+    Chained (run_trail m steps n w a b (room z.offsets z.corners z.coords)) 0 rows (record { answer = r; rows = rows; done = 0 }) z z'
+unfolding trail
+run_none m steps n w a b rows {z = z} h e g =
+    run-list m steps n w a b (room z.offsets z.corners z.coords) h
+    (rw e (record {
       ended = record { answer = g.answer ∙ no_step (copy_outcome w.offsets w.corners w.coords (length z.offsets) (length z.corners) (length z.coords)); offsets = g.offsets; corners = g.corners; coords = g.coords };
       rows = refl;
       done = refl;
-    })
-run_none m (s ∷ l) w a b h g e = absurd (omega arith)
+    }))
 
--- one step or more
-pub run-list :
+-- ---- all the steps of a list
+
+pub none-whole :
+    (m : Masks) (steps : List Step) (w : Mesh) (a b : Room) {rows : List Row} {made : Answer} {r : Ran} {z z' : Mesh} → length steps ≡ 0 →
+    Came (copy_outcome w.offsets w.corners w.coords (length z.offsets) (length z.corners) (length z.coords)) z.offsets z.corners z.coords made z'.offsets z'.corners z'.coords →
+    r ≡ record { answer = made; rows = rows; done = 0 } → Chained (run_trail m steps (length steps) w a b (room z.offsets z.corners z.coords)) 0 rows r z z'
+none-whole m steps w a b {rows} h g e = rw e (run_none m steps (length steps) w a b rows (omega arith) h g)
+
+pub list-whole :
     (m : Masks) {steps l : List Step} {s : Step} (w : Mesh) (a b z : Room) {rows : List Row} {r : Ran} {x x' : Mesh} → length steps ≤ 16 → steps ≡ s ∷ l →
     Chained (trail m (s ∷ l) 1 w a b z) 0 rows r x x' → Chained (run_trail m steps (length steps) w a b z) 0 rows r x x'
-unfolding run_trail
-run-list m {steps} w a b z few e h = rw (le-ltb _ _ few, take_all (length steps) steps (le_refl (length steps)), e) h
+list-whole m {steps} w a b z few e h = run-list m steps (length steps) w a b z few (rw (take_all (length steps) steps (le_refl (length steps)), e) h)
 
 -- ---- the whole of it
 

@@ -1,10 +1,11 @@
 // What the header of these cases has beside that of replay's: ten more words.
 
 ghost use Rattle.std.specs.Prelude.{◌↔◌, IsTrue, IfOk};
+ghost use Rattle.cases.specs.Header.{Within};
 ghost use Rattle.runs.specs.More.{Fits};
 
 use cases::fault::Fault;
-use cases::header::Sizes;
+use cases::header::{Header, Sizes};
 use cases::input::read_array;
 use std::io::Read;
 
@@ -37,17 +38,30 @@ impl More {
             && self.bytes <= MOST_BYTES
     }
 
-    // These words, the next ones of the input.
-    pub fn read<R: Read>(input: &mut R) -> Result<More, Fault>
+    // What these words say, where each is within its limit.
+    pub fn checked(words: [u32; 10]) -> Result<More, Fault>
         ensures { IfOk result (λ m. Fits m) }
     {
-        let more = More::from(read_array(input)?);
+        let more = More::from(words);
         if more.fits() {
             Ok(more)
         } else {
             Err(Fault::BadCase)
         }
     }
+}
+
+// The next header of the input, with these words.
+pub fn read_header<R: Read>(input: &mut R) -> Result<(Header, More), Fault>
+    ensures header { IfOk result (λ r. Within r.0) }
+    ensures more { IfOk result (λ r. Fits r.1) }
+{
+    let words: [u32; 24] = read_array(input)?;
+    let mut first = [0u32; 14];
+    first.copy_from_slice(&words[..14]);
+    let mut rest = [0u32; 10];
+    rest.copy_from_slice(&words[14..]);
+    Ok((Header::checked(first)?, More::checked(rest)?))
 }
 
 impl From<[u32; 10]> for More {

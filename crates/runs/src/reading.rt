@@ -1,8 +1,10 @@
 // The steps of a case: four words each, the code, the flags, the ratio and the height.
 
+ghost use Rattle.std.specs.Prelude.{◌≡◌, IfOk, vec_len};
+
 use cases::fault::Fault;
 use cases::flags::Flags;
-use cases::input::read_array;
+use cases::input::read_words;
 use cases::operator::Operator;
 use std::alloc::{AllocError, Global};
 use std::io::Read;
@@ -29,11 +31,16 @@ fn step_of(words: [u32; 4]) -> Result<Step, Fault> {
     })
 }
 
-// The next n steps of the input.
-pub fn read_steps<R: Read>(input: &mut R, alloc: Global, n: u32) -> Result<Vec<Step>, Fault> {
+// The next n steps of the input, whose words are read before any is looked at.
+pub fn read_steps<R: Read>(input: &mut R, alloc: Global, n: u32) -> Result<Vec<Step>, Fault>
+    ensures { IfOk result (λ steps. vec_len steps ≡ n) }
+{
+    let count = n.checked_mul(4).ok_or(Fault::BadCase)?;
+    let words = read_words(input, alloc, count)?;
     let mut steps = Vec::new(alloc);
-    for _ in 0..n {
-        let step = step_of(read_array(input)?)?;
+    for i in 0..n as usize {
+        let at = 4 * i;
+        let step = step_of([words[at], words[at + 1], words[at + 2], words[at + 3]])?;
         steps.push(step).map_err(AllocError::from)?;
     }
     Ok(steps)

@@ -1,37 +1,20 @@
--- A section on a mesh that is lent: its places, its faces at a place, and all its faces. Definitions only.
+-- A section on a mesh that is lent: its faces at a place, and all its faces. Definitions only.
 use Rattle.std.specs.Prelude.{Bool, cond, List, [], ◌∷◌, ℕ}
-use Rattle.picks.specs.Picks.{picked}
 use Rattle.picks.specs.declared.Masks.{Masks}
 use Rattle.picks.specs.declared.Ready.{Ready}
-use Rattle.rule.specs.Rule.{vertex_at, inner, splits, old, apexed, faces_at_place, face_places, section_of}
+use Rattle.rule.specs.Rule.{vertex_at, inner, splits, old, apexed, faces_at_place, section_of}
 use Rattle.rule.specs.Numbering.{vertices}
-use Rattle.rule.specs.Sections.{no_mask}
 use Rattle.rule.specs.declared.numbering.Numbering.{Numbering}
 use Rattle.rule.specs.declared.Move.TheVariants.{Here}
 use Rattle.rule.specs.declared.Slot.{Slot}
 use Rattle.rule.specs.declared.Bases.{Bases}
 use Rattle.rule.specs.declared.Section.{Section}
-use Rattle.rule.specs.declared.Shape.{Shape}
-
-abbrev pub places_on : Shape → Ready → ℕ
-places_on q m = face_places q m.offsets.now m.corners.now m.coords.now
 
 abbrev pub faces_on : Section → Masks → Ready → Bases → ℕ → List (List ℕ)
 faces_on s k m b i = faces_at_place s b k.mask k.arities.now k.numbers.now m.offsets.now m.corners.now m.coords.now i
 
 abbrev pub section_on : Section → Masks → Ready → Bases → List (List ℕ)
 section_on s k m b = section_of s b k.mask k.arities.now k.numbers.now m.offsets.now m.corners.now m.coords.now
-
--- the same of a section that does not pick, with no mask
-abbrev pub unmasked_on : Section → Ready → Bases → ℕ → List (List ℕ)
-unmasked_on s m b i = faces_at_place s b no_mask [] [] m.offsets.now m.corners.now m.coords.now i
-
-abbrev pub unmasked_section : Section → Ready → Bases → List (List ℕ)
-unmasked_section s m b = section_of s b no_mask [] [] m.offsets.now m.corners.now m.coords.now
-
--- face f picked or not
-abbrev pub picked_on : Masks → Ready → ℕ → Bool
-picked_on k m = picked k.mask k.arities.now k.numbers.now m.offsets.now m.corners.now m.coords.now
 
 -- face f split at its corners where it is hit, its apex after those of n others; as it is where it is not
 abbrev pub pick_faces : Bool → ℕ → List Slot → Numbering → ℕ → List (List ℕ)

@@ -56,11 +56,12 @@ pub fn find(list: &[u32], x: u32, stop: usize) -> usize
     lowest(stop, |i| list[i] == x).unwrap_or(stop)
 }
 
-// All of `list` stored from the start of `out`.
-#[tactic(auto, using(crate::specs::Lists::sets_over))]
+// All of `list` stored from the start of `out`: one by one, so that no name of the C library is needed for it.
 pub fn copy_to_front<T: Copy>(list: &[T], out: &mut [T])
     requires { length list.now ≤ length out.old }
     ensures { out.new ≡ sets out.old 0 list.now }
 {
-    out[..list.len()].copy_from_slice(list);
+    for i in 0..list.len() {
+        out[i] = list[i];
+    }
 }

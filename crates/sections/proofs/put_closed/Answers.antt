@@ -10,7 +10,7 @@ use Rattle.sections.proofs.put_closed.Goals as goal
 
 pub put_face-requires-clause-space : goal.put_face-requires-clause-space
 put_face-requires-clause-space c =
-    room-one _ (made_long (vertex_at c.args.mesh.offsets.now c.args.mesh.corners.now c.args.bases) (take c.args.s.n c.args.s.slots) c.args.i)
+    room-one _ (made_long (vertex_at c.args.numbering.offsets.now c.args.numbering.corners.now c.args.numbering.bases) (take c.args.s.n c.args.s.slots) c.args.i)
     (room_as (at-corners _ _ _ _ _ _ _ _ _ c.in-Corners.is) c.requires.room)
 
 pub put_up-requires-clause-room : goal.put_up-requires-clause-room
@@ -18,12 +18,12 @@ put_up-requires-clause-room c = room_as (at-ups _ _ _ _ _ _ _ _ _ c.in-Ups.is) c
 
 pub put_inner-requires-clause-space : goal.put_inner-requires-clause-space
 put_inner-requires-clause-space c =
-    room-one _ (length-inner (vertex_at c.args.mesh.offsets.now c.args.mesh.corners.now c.args.bases) c.args.mesh.offsets.now (get_or c.args.s.slots 0 (old Here)) c.args.i)
+    room-one _ (length-inner (vertex_at c.args.numbering.offsets.now c.args.numbering.corners.now c.args.numbering.bases) c.args.numbering.offsets.now (get_or c.args.s.slots 0 (old Here)) c.args.i)
     (room_as (at_inner _ _ _ _ _ _ _ _ _ c.in-Inner.is) c.requires.room)
 
 pub put_outer-requires : goal.put_outer-requires
 put_outer-requires c =
-    room-one _ (length-outer (vertex_at c.args.mesh.offsets.now c.args.mesh.corners.now c.args.bases) c.args.mesh.offsets.now c.args.mesh.corners.now (get_or c.args.s.slots 0 (old Here)) c.args.i)
+    room-one _ (length-outer (vertex_at c.args.numbering.offsets.now c.args.numbering.corners.now c.args.numbering.bases) c.args.numbering.offsets.now c.args.numbering.corners.now (get_or c.args.s.slots 0 (old Here)) c.args.i)
     (room_as (at-vertices _ _ _ _ _ _ _ _ _ c.in-Vertices.is) c.requires.room)
 
 pub returns-in-Corners : goal.returns-in-Corners

@@ -2,11 +2,12 @@ use Rattle.std.proofs.Common.{◌≡◌}
 use Rattle.slices.specs.First.{count}
 use Rattle.slices.specs.Lists.{each}
 use Rattle.rule.specs.Output.{Put}
-use Rattle.sections.specs.Lent.{faces_on, picked_on}
+use Rattle.picks.specs.Picks.{picked}
+use Rattle.rule.specs.Rule.{faces_at_place}
 use Rattle.sections.proofs.put_picks.Given as goal
 
 abbrev pub invariant-loop-f : goal.invariant-loop-f
 invariant-loop-f l = record {
-  counted : l.seen ≡ count (picked_on l.masks l.mesh) l.f;
-  put : Put l.initial.out (each (faces_on l.fn.s l.masks l.mesh l.fn.bases) l.f) l.out;
+  counted : l.seen ≡ count (picked l.masks.mask l.masks.arities.now l.masks.numbers.now l.offsets l.corners l.coords) l.f;
+  put : Put l.initial.out (each (faces_at_place l.fn.s l.numbering.bases l.masks.mask l.masks.arities.now l.masks.numbers.now l.offsets l.corners l.coords) l.f) l.out;
 }

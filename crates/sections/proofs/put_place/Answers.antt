@@ -6,7 +6,7 @@ use Rattle.sections.proofs.put_place.Goals as goal
 
 pub put_backward-requires-clause-space : goal.put_backward-requires-clause-space
 put_backward-requires-clause-space c =
-    room-one _ (length-backward c.args.mesh.offsets.now c.args.mesh.corners.now c.args.i) (room_as (at-backward _ _ _ _ _ _ _ _ _ c.in-Backward.is) c.requires.room)
+    room-one _ (length-backward c.args.offsets.now c.args.corners.now c.args.i) (room_as (at-backward _ _ _ _ _ _ _ _ _ c.in-Backward.is) c.requires.room)
 
 pub put_cut-requires-clause-room : goal.put_cut-requires-clause-room
 put_cut-requires-clause-room c = room_as (at-triangles _ _ _ _ _ _ _ _ _ _ c.in-Triangles.is) c.requires.room

@@ -11,23 +11,23 @@ loop-j-init c = put_none _
 
 pub triangle_at-requires : goal.triangle_at-requires
 triangle_at-requires c =
-    (cut-least c.args.shorter c.args.run.coords.now c.args.run.face.now _ c.requires.some c.cut_of-cut.ensures, omega arith)
+    (cut-least c.args.shorter c.args.coords.now c.args.face.now _ c.requires.in_bounds c.cut_of-cut.ensures, omega arith)
 
 pub put_triangle-requires : goal.put_triangle-requires
 unfolding triangles
 put_triangle-requires c =
-    let run = c.args.run.face.now in
-    let cut = cut_of c.args.shorter c.args.run.coords.now run in
-    space_each (triangle_of cut run) _ (length run - 2) c.loop-j-test.true (length-triangle cut run _) c.requires.room c.loop-j.invariant
+    let face = c.args.face.now in
+    let cut = cut_of c.args.shorter c.args.coords.now face in
+    space_each (triangle_of cut face) _ (length face - 2) c.loop-j-test.true (length-triangle cut face _) c.requires.room c.loop-j.invariant
 
 pub loop-j-preserved : goal.loop-j-preserved
 loop-j-preserved c =
-    let run = c.args.run.face.now in
-    let cut = cut_of c.args.shorter c.args.run.coords.now run in
-    put-more (λ i. triangle_of cut run i ∷ []) _ c.loop-j.invariant (rw (c.triangle_at.ensures, c.cut_of-cut.ensures) at c.put_triangle.ensures)
+    let face = c.args.face.now in
+    let cut = cut_of c.args.shorter c.args.coords.now face in
+    put-more (λ i. triangle_of cut face i ∷ []) _ c.loop-j.invariant (rw (c.triangle_at.ensures, c.cut_of-cut.ensures) at c.put_triangle.ensures)
 
 pub returns : goal.returns
 unfolding triangles
 returns c =
-    let all : c.loop-j.j ≡ length c.args.run.face.now - 2 = omega arith in
+    let all : c.loop-j.j ≡ length c.args.face.now - 2 = omega arith in
     rw all at c.loop-j.invariant

@@ -6,4 +6,4 @@ use Rattle.rule.proofs.triangles.put_triangles.Given as goal
 
 abbrev pub invariant-loop-j : goal.invariant-loop-j
 invariant-loop-j l =
-    Put l.initial.out (each (λ i. triangle_of (cut_of l.shorter l.run.coords.now l.run.face.now) l.run.face.now i ∷ []) l.j) l.out
+    Put l.initial.out (each (λ i. triangle_of (cut_of l.shorter l.coords l.face) l.face i ∷ []) l.j) l.out
