@@ -1,14 +1,17 @@
 // A case: its header and its lists.
 
+ghost use Rattle.std.specs.Prelude.{IfOk};
+ghost use Rattle.cases.specs.Case.{IsOf};
+
 use crate::header::Header;
-use crate::input::read_list;
+use crate::input::{read_list, read_words};
 use crate::owned::OwnedMesh;
 use std::alloc::Global;
 use std::io;
 use std::io::Read;
 use std::num::f32_from_bits_with_nan;
 
-// The lists keep their memory for those of the next case.
+// `refill` keeps the memory of the lists for those of the next case.
 #[derive(Drop)]
 pub struct Case {
     pub header: Header,
@@ -38,8 +41,36 @@ impl Case {
         }
     }
 
-    // Reads the lists that a header tells of.
-    pub fn read_lists<R: Read>(&mut self, input: &mut R, header: Header) -> io::Result<()> {
+    // The lists that a header tells of.
+    pub fn read_lists<R: Read>(input: &mut R, alloc: Global, header: Header) -> io::Result<Case>
+        ensures { IfOk result (λ case. IsOf header case) }
+    {
+        let sizes = header.sizes;
+        let offsets = read_words(input, alloc, sizes.offsets)?;
+        let corners = read_words(input, alloc, sizes.corners)?;
+        let bits = read_words(input, alloc, sizes.coords)?;
+        let arities = read_words(input, alloc, header.arities)?;
+        let faces = read_words(input, alloc, header.faces)?;
+        let coords = bits
+            .iter()
+            .map(|b| f32_from_bits_with_nan(*b))
+            .collect(alloc)?;
+        Ok(Case {
+            header,
+            mesh: OwnedMesh {
+                offsets,
+                corners,
+                coords,
+            },
+            bits,
+            arities,
+            faces,
+            bytes: Vec::new(alloc),
+        })
+    }
+
+    // The same in place of those of this case, in their memory.
+    pub fn refill<R: Read>(&mut self, input: &mut R, header: Header) -> io::Result<()> {
         let sizes = header.sizes;
         let bytes = &mut self.bytes;
         self.header = header;

@@ -28,6 +28,8 @@ impl From<io::Error> for Fault {
 }
 
 impl From<AllocError> for Fault {
+    ghost from_gives = { λ _ why. why ≢ Ended };
+
     fn from(error: AllocError) -> Fault {
         Fault::System(io::Error::from(error))
     }

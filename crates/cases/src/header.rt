@@ -1,11 +1,11 @@
 // The header of a case: its 14 words, and the limits of the counts in it.
 
-ghost use Rattle.std.specs.Prelude.{◌↔◌, IsTrue, IfOk};
+ghost use Rattle.std.specs.Prelude.{◌≡◌, ◌≢◌, ◌↔◌, IsTrue, IfOk, IfErr};
 ghost use Rattle.cases.specs.Header.{Fits, Within};
 
 use crate::fault::Fault;
 use crate::flags::Flags;
-use crate::input::read_array;
+use crate::input::{next_array, read_array};
 use std::io::Read;
 
 // The most numbers of a list, and the most coordinates.
@@ -56,14 +56,23 @@ impl Header {
 
     // The next header of the input.
     pub fn read<R: Read>(input: &mut R) -> Result<Header, Fault>
-        ensures { IfOk result (λ h. Within h) }
+        ensures within { IfOk result (λ h. Within h) }
+        ensures why { IfErr result (λ why. why ≢ Fault.Ended) }
     {
         Header::checked(read_array(input)?)
     }
 
+    // The same; `Ended` where the input has none.
+    pub fn next<R: Read>(input: &mut R) -> Result<Header, Fault>
+        ensures { IfOk result (λ h. Within h) }
+    {
+        Header::checked(next_array(input)?)
+    }
+
     // The header of these words, where each count is within its limit.
     pub fn checked(words: [u32; 14]) -> Result<Header, Fault>
-        ensures { IfOk result (λ h. Within h) }
+        ensures within { IfOk result (λ h. Within h) }
+        ensures why { IfErr result (λ why. why ≡ Fault.BadCase) }
     {
         let header = Header::from(words);
         if header.is_within() {

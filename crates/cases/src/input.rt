@@ -5,7 +5,7 @@ ghost use Rattle.std.specs.Io.KnownBytes.{Consumes, IsAtEnd};
 ghost use Rattle.cases.specs.Input.{TakesWords};
 
 use crate::fault::Fault;
-use byteorder::{ByteOrder, LittleEndian};
+use byteorder::{ByteOrder, LittleEndian, ReadBytesExt};
 use std::alloc::Global;
 use std::io;
 use std::io::Read;
@@ -25,8 +25,17 @@ fn read_front<R: Read>(input: &mut R, bytes: &mut [u8]) -> Result<(), Fault>
     Ok(())
 }
 
-// The next words of the input, as many as the array has; `Ended` where there is not a byte of them.
-pub fn read_array<const N: usize, R: Read>(input: &mut R) -> Result<[u32; N], Fault>
+// The next words of the input, as many as the array has.
+pub fn read_array<const N: usize, R: Read>(input: &mut R) -> io::Result<[u32; N]>
+    ensures { IfOk result (λ words. TakesWords (R.remaining input.old) (R.remaining input.new) words) }
+{
+    let mut words = [0u32; N];
+    input.read_u32_into::<LittleEndian>(&mut words)?;
+    Ok(words)
+}
+
+// The same; `Ended` where there is not a byte of them.
+pub fn next_array<const N: usize, R: Read>(input: &mut R) -> Result<[u32; N], Fault>
     ensures bytes { IfOk result (λ words. TakesWords (R.remaining input.old) (R.remaining input.new) words) }
     ensures ended { IfErr result (λ why. why ≡ Fault.Ended → 0 < N → IsAtEnd (R.remaining input.old)) }
 {

@@ -14,4 +14,6 @@ pub mod operator;
 pub mod owned;
 pub mod playing;
 pub mod shapes;
+#[cfg(test)]
+mod tests;
 pub mod text;

@@ -1,5 +1,8 @@
 // The codes 1 to 11, the operators.
 
+ghost use Rattle.std.specs.Prelude.{◌≡◌, IfErr};
+ghost use Rattle.cases.specs.declared.fault.Fault.TheVariants.{BadCase};
+
 use crate::fault::Fault;
 
 #[derive(Clone, Copy)]
@@ -19,6 +22,8 @@ pub enum Operator {
 
 impl TryFrom<u32> for Operator {
     type Error = Fault;
+
+    ghost try_from_gives = { λ _ r. IfErr r (λ why. why ≡ BadCase) };
 
     fn try_from(code: u32) -> Result<Operator, Fault> {
         match code {

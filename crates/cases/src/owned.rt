@@ -4,7 +4,7 @@ ghost use Rattle.std.specs.Prelude.{◌≡◌, ℕ, [], ◌∷◌, ◌+◌, ◌*
 ghost use Rattle.std.specs.Float.{binary32};
 
 use crate::header::Sizes;
-use crate::text::Listed;
+use crate::text::Fields;
 use mesh::{Mesh, MeshMut};
 use std::alloc::{AllocError, Global};
 use std::fmt;
@@ -113,8 +113,8 @@ pub fn pairs(alloc: Global, n: u32, fill: u32) -> Result<Vec<[u32; 2]>, AllocErr
 // Each list after its letter.
 impl fmt::Display for OwnedMesh {
     fn fmt<W: fmt::Write>(&self, f: &mut fmt::Formatter<W>) -> fmt::Result {
-        write!(f, " o{}", Listed(&self.offsets))?;
-        write!(f, " c{}", Listed(&self.corners))?;
-        write!(f, " x{}", Listed(&self.coords))
+        write!(f, " o{}", Fields(&self.offsets))?;
+        write!(f, " c{}", Fields(&self.corners))?;
+        write!(f, " x{}", Fields(&self.coords))
     }
 }

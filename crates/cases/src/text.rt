@@ -127,7 +127,20 @@ fn write_fields<T: Field, W: fmt::Write>(
 #[derive(Clone, Copy)]
 pub struct Listed<'a, T>(pub &'a [T]);
 
-impl<T: Field> Display for Listed<'_, T> {
+impl<T: Display> Display for Listed<'_, T> {
+    fn fmt<W: fmt::Write>(&self, f: &mut fmt::Formatter<W>) -> fmt::Result {
+        for x in self.0 {
+            write!(f, " {x}")?;
+        }
+        Ok(())
+    }
+}
+
+// A list of fields, each after a space.
+#[derive(Clone, Copy)]
+pub struct Fields<'a, T>(pub &'a [T]);
+
+impl<T: Field> Display for Fields<'_, T> {
     fn fmt<W: fmt::Write>(&self, f: &mut fmt::Formatter<W>) -> fmt::Result {
         for fields in self.0.chunks(AT_ONCE) {
             write_fields(f, fields, false)?;
@@ -151,6 +164,7 @@ impl<T: Field> Display for Parted<'_, T> {
     }
 }
 
+// A float by itself.
 #[derive(Clone, Copy)]
 pub struct Float(pub f32);
 

@@ -2,7 +2,7 @@
 
 use cases::case::Case;
 use cases::owned::pairs;
-use cases::text::{Listed, Parted};
+use cases::text::{Fields, Parted};
 use mesh::Refusal;
 use std::alloc::Global;
 use std::fmt::Display;
@@ -27,5 +27,5 @@ pub fn write_edges<W: Write>(case: &Case, alloc: Global, out: &mut W) -> io::Res
     let Case { header, mesh, .. } = case;
     let mut lent = pairs(alloc, header.rooms.offsets, header.fill)?;
     let listing = edges::to_edges(mesh.as_mesh(), &mut lent);
-    write!(out, "{} e{}", EdgesAnswer(listing), Listed(&lent))
+    write!(out, "{} e{}", EdgesAnswer(listing), Fields(&lent))
 }

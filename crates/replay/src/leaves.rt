@@ -3,7 +3,7 @@
 ghost use Rattle.std.specs.Prelude.{◌↔◌, IsTrue};
 ghost use Rattle.faces.specs.Face.{InReach};
 
-use cases::text::{Bits, Floats, Listed, Parted};
+use cases::text::{Bits, Fields, Floats, Parted};
 use faces::Run;
 use std::io;
 use std::io::Write;
@@ -33,7 +33,7 @@ pub fn write_roots<W: Write>(bits: &[u32], out: &mut W) -> io::Result<()> {
             *root = Bits(root::root_bits(*b));
         }
         let n = some.len().min(ROOTS);
-        write!(out, "{}", Listed(&roots[..n]))?;
+        write!(out, "{}", Fields(&roots[..n]))?;
     }
     Ok(())
 }

@@ -13,7 +13,7 @@ use cases::answers::Checked;
 use cases::case::Case;
 use cases::fault::Fault;
 use cases::header::Header;
-use cases::playing::{Player, play_all};
+use cases::playing::{CasePlayer, play_cases};
 use code::Code;
 use edge_list::write_edges;
 use leaves::{write_leaf, write_roots};
@@ -36,7 +36,7 @@ fn answer<W: Write>(code: Code, case: &Case, alloc: Global, out: &mut W) -> io::
 
 struct Replay;
 
-impl Player for Replay {
+impl CasePlayer for Replay {
     fn play<R: Read, W: Write>(
         &self,
         input: &mut R,
@@ -44,14 +44,14 @@ impl Player for Replay {
         alloc: Global,
         out: &mut W,
     ) -> Result<(), Fault> {
-        let header = Header::read(input)?;
+        let header = Header::next(input)?;
         let code = Code::try_from(header.code)?;
-        case.read_lists(input, header)?;
+        case.refill(input, header)?;
         answer(code, case, alloc, out)?;
         Ok(())
     }
 }
 
 fn main(rt: HostRuntime) -> io::Result<()> {
-    play_all(&Replay, &rt)
+    play_cases(&Replay, &rt)
 }

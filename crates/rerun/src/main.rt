@@ -11,18 +11,18 @@ ghost use Rattle.runs.specs.More.{Fits};
 use call::Call;
 use cases::case::Case;
 use cases::fault::Fault;
-use cases::playing::{Player, play_all};
+use cases::playing::{CasePlayer, play_cases};
 use files::{read_file, write_file};
 use runs::calls::{write_list, write_recipe};
 use runs::more::read_header;
-use runs::reading::read_steps;
+use runs::reading::read_all_steps;
 use std::alloc::Global;
 use std::io;
 use std::io::{Read, Write};
 
 struct Rerun;
 
-impl Player for Rerun {
+impl CasePlayer for Rerun {
     fn play<R: Read, W: Write>(
         &self,
         input: &mut R,
@@ -32,8 +32,8 @@ impl Player for Rerun {
     ) -> Result<(), Fault> {
         let (header, more) = read_header(input)?;
         let call = Call::try_from(&header)?;
-        case.read_lists(input, header)?;
-        let steps = read_steps(input, alloc, more.steps)?;
+        case.refill(input, header)?;
+        let steps = read_all_steps(input, alloc, more.steps)?;
         let file = read_file(input, alloc, more.bytes)?;
         match call {
             Call::List(list) => write_list(list, case, &more, alloc, out)?,
@@ -45,5 +45,5 @@ impl Player for Rerun {
 }
 
 fn main(rt: HostRuntime) -> io::Result<()> {
-    play_all(&Rerun, &rt)
+    play_cases(&Rerun, &rt)
 }

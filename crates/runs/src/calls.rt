@@ -1,5 +1,6 @@
 // The calls of a list and of a recipe.
 
+ghost use Rattle.std.specs.Prelude.{◌≡◌, IfErr};
 ghost use Rattle.runs.specs.More.{Fits};
 
 use crate::more::More;
@@ -9,7 +10,7 @@ use cases::case::Case;
 use cases::fault::Fault;
 use cases::header::Header;
 use cases::owned::numbers;
-use cases::text::Listed;
+use cases::text::Fields;
 use engine::{Counts, Stop};
 use named::NamedList;
 use std::alloc::Global;
@@ -18,7 +19,9 @@ use std::io::Write;
 use steps::Step;
 
 // The list of a header, with the numbers that it takes.
-pub fn list_of(header: &Header) -> Result<NamedList, Fault> {
+pub fn list_of(header: &Header) -> Result<NamedList, Fault>
+    ensures { IfErr result (λ why. why ≡ Fault.BadCase) }
+{
     let ratio = header.ratio;
     let height = header.height;
     match header.code {
@@ -91,5 +94,5 @@ pub fn write_recipe<W: Write>(
     let mut ledger = numbers(alloc, 4 * more.rows, case.header.fill)?;
     let mut work = Work::lent(alloc, &case.header, more)?;
     let answer = call_recipe(&mut ledger, steps, case, &mut work);
-    write!(out, "{} l{}{work}", Called(answer), Listed(&ledger))
+    write!(out, "{} l{}{work}", Called(answer), Fields(&ledger))
 }

@@ -5,4 +5,6 @@
 pub mod calls;
 pub mod more;
 pub mod reading;
+#[cfg(test)]
+mod tests;
 pub mod work;

@@ -1,12 +1,12 @@
 // What the header of these cases has beside that of replay's: ten more words.
 
-ghost use Rattle.std.specs.Prelude.{◌↔◌, IsTrue, IfOk};
+ghost use Rattle.std.specs.Prelude.{◌≡◌, ◌≢◌, ◌↔◌, IsTrue, IfOk, IfErr};
 ghost use Rattle.cases.specs.Header.{Within};
 ghost use Rattle.runs.specs.More.{Fits};
 
 use cases::fault::Fault;
 use cases::header::{Header, Sizes};
-use cases::input::read_array;
+use cases::input::{next_array, read_array};
 use std::io::Read;
 
 // The most rows of a ledger, steps of a recipe and bytes of a file.
@@ -38,9 +38,18 @@ impl More {
             && self.bytes <= MOST_BYTES
     }
 
+    // These words, the next ones of the input.
+    pub fn read<R: Read>(input: &mut R) -> Result<More, Fault>
+        ensures fits { IfOk result (λ m. Fits m) }
+        ensures why { IfErr result (λ why. why ≢ Fault.Ended) }
+    {
+        More::checked(read_array(input)?)
+    }
+
     // What these words say, where each is within its limit.
     pub fn checked(words: [u32; 10]) -> Result<More, Fault>
-        ensures { IfOk result (λ m. Fits m) }
+        ensures fits { IfOk result (λ m. Fits m) }
+        ensures why { IfErr result (λ why. why ≡ Fault.BadCase) }
     {
         let more = More::from(words);
         if more.fits() {
@@ -51,12 +60,12 @@ impl More {
     }
 }
 
-// The next header of the input, with these words.
+// The next header of the input, with these words; `Ended` where the input has none.
 pub fn read_header<R: Read>(input: &mut R) -> Result<(Header, More), Fault>
     ensures header { IfOk result (λ r. Within r.0) }
     ensures more { IfOk result (λ r. Fits r.1) }
 {
-    let words: [u32; 24] = read_array(input)?;
+    let words: [u32; 24] = next_array(input)?;
     let mut first = [0u32; 14];
     first.copy_from_slice(&words[..14]);
     let mut rest = [0u32; 10];
