@@ -132,25 +132,28 @@ impl Player for Arities {
     }
 }
 
-// An input in memory, whose reads fail where it is broken.
+// An input in memory, whose reads fail after so many bytes.
 #[derive(Drop)]
 struct Source<'a> {
     bytes: &'a [u8],
-    broken: bool,
+    sound: usize,
 }
 
 impl Read for Source<'_> {
     fn read(&mut self, buf: &mut [u8]) -> io::Result<usize> {
-        if self.broken {
+        if self.sound == 0 {
             return Err(io::Error::from(ErrorKind::ConnectionReset));
         }
-        self.bytes.read(buf)
+        let some = buf.len().min(self.sound);
+        let read = self.bytes.read(&mut buf[..some])?;
+        self.sound = self.sound.saturating_sub(read);
+        Ok(read)
     }
 }
 
 impl BufRead for Source<'_> {
     fn fill_buf(&mut self) -> io::Result<&[u8]> {
-        if self.broken {
+        if self.sound == 0 {
             return Err(io::Error::from(ErrorKind::ConnectionReset));
         }
         Ok(self.bytes)
@@ -161,12 +164,13 @@ impl BufRead for Source<'_> {
     }
 }
 
-// A system with this input, which counts the bytes that it prints, so many at most in one go.
+// A system with this input, which counts what it prints and the bytes of it, so many at most in one go.
 #[derive(Drop)]
 struct Memory<'a> {
     alloc: Global,
     bytes: &'a [u8],
-    broken: bool,
+    sound: usize,
+    lines: Cell<usize>,
     printed: Cell<usize>,
     most: usize,
 }
@@ -193,7 +197,7 @@ impl<'a> Input for Memory<'a> {
     fn reader(&self) -> Source<'a> {
         Source {
             bytes: self.bytes,
-            broken: self.broken,
+            sound: self.sound,
         }
     }
 }
@@ -211,6 +215,7 @@ impl Print for Memory<'_> {
         if bytes.len() > self.most {
             return Err(io::Error::from(ErrorKind::BrokenPipe));
         }
+        self.lines.set(self.lines.get().wrapping_add(1));
         self.printed
             .set(self.printed.get().wrapping_add(bytes.len()));
         Ok(())
@@ -222,7 +227,8 @@ impl Memory<'_> {
         Memory {
             alloc,
             bytes,
-            broken: false,
+            sound: usize::MAX,
+            lines: Cell::new(0),
             printed: Cell::new(0),
             most,
         }
@@ -235,6 +241,7 @@ fn plays_alone(rt: HostRuntime) -> Result<(), Fail> {
     let two = Memory::new(rt.alloc(), twice.as_flattened(), usize::MAX);
     play_all(&Arities, &two)?;
     assert_eq!(rt; two.printed.get(), "a 4\na 4\n".len());
+    assert_eq!(rt; two.lines.get(), 2);
     let cut = Memory::new(rt.alloc(), &CASE[..79], usize::MAX);
     play_all(&Arities, &cut)?;
     assert_eq!(rt; cut.printed.get(), "bad case\n".len());
@@ -244,11 +251,13 @@ fn plays_alone(rt: HostRuntime) -> Result<(), Fail> {
     let none = Memory::new(rt.alloc(), &[], usize::MAX);
     play_all(&Arities, &none)?;
     assert_eq!(rt; none.printed.get(), 0);
-    let mut broken = Memory::new(rt.alloc(), &CASE, usize::MAX);
-    broken.broken = true;
-    let told = play_all(&Arities, &broken);
-    assert!(rt; told.is_err_and(|e| e.kind() == ErrorKind::ConnectionReset));
-    assert_eq!(rt; broken.printed.get(), 0);
+    for sound in [0, 40, 70] {
+        let mut broken = Memory::new(rt.alloc(), &CASE, usize::MAX);
+        broken.sound = sound;
+        let told = play_all(&Arities, &broken);
+        assert!(rt; told.is_err_and(|e| e.kind() == ErrorKind::ConnectionReset));
+        assert_eq!(rt; broken.printed.get(), 0);
+    }
     let full = Memory::new(rt.alloc(), &CASE, 0);
     assert!(rt; play_all(&Arities, &full).is_err_and(|e| e.kind() == ErrorKind::BrokenPipe));
     Ok(())

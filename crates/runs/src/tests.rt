@@ -41,8 +41,13 @@ fn tells_lists(rt: HostRuntime) {
 
 #[test]
 fn reads_steps(rt: HostRuntime) -> Result<(), Fail> {
-    let mut bytes = vec![in rt.alloc(); 0u8; 16 * 12]?;
-    for (step, code) in bytes.chunks_mut(16).zip(1u8..13) {
+    let mut bytes = vec![in rt.alloc(); 0u8; 16 * 13]?;
+    // The fifth step has the height 1.0, and a ratio that its flags leave out.
+    bytes[68] = 2;
+    bytes[72] = 1;
+    bytes[78] = 128;
+    bytes[79] = 63;
+    for (step, code) in bytes.chunks_mut(16).zip(1u8..14) {
         step[0] = code;
     }
     let mut input: &[u8] = &bytes;
@@ -50,9 +55,10 @@ fn reads_steps(rt: HostRuntime) -> Result<(), Fail> {
     assert_eq!(rt; steps.len(), 11);
     assert!(rt; matches!(steps[0], Step::Ambo(None)));
     assert!(rt; matches!(steps[2], Step::Dual));
+    assert!(rt; matches!(steps[4], Step::Kis(Some(1.0))));
     assert!(rt; matches!(steps[9], Step::Whirl(None, None)));
     assert!(rt; matches!(steps[10], Step::Triangulate));
-    assert_eq!(rt; input.len(), 16);
+    assert_eq!(rt; input.len(), 32);
     let mut input: &[u8] = &bytes;
     assert!(rt;
         matches!(
@@ -60,6 +66,7 @@ fn reads_steps(rt: HostRuntime) -> Result<(), Fail> {
             Err(Fault::BadCase)
         )
     );
+    assert_eq!(rt; input.len(), 16);
     bytes.truncate(16 * 11);
     let mut input: &[u8] = &bytes;
     assert!(rt;
